@@ -5,3 +5,4 @@ pub mod fault;
 mod fields;
 pub mod layout;
 pub mod reading;
+pub mod view;
