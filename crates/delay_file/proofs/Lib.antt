@@ -1,3 +1,4 @@
+pub mod Entries
 pub mod Runs
 pub mod Scans
 pub mod Shapes

@@ -15,7 +15,7 @@ use Rattle.std.specs.declared.option.Option.{Option}
 use Rattle.timing.specs.declared.pair.Pair.{Pair}
 use Rattle.delay_file.specs.Bytes.{be32, beZ, every, is-zero}
 use Rattle.delay_file.specs.Files.{numbered}
-use Rattle.delay_file.specs.Records.{Reading, register, delay, refused, reading, register-rest, pair-rest, starts, pair-fields, name-in}
+use Rattle.delay_file.specs.Records.{Reading, register, delay, refused, reading, register-rest, pair-rest, starts, pair-fields, name-in, lawful-field}
 
 
 pub reading-1 : (k : ℕ) (xs : List ℕ) → length xs ≡ 32 → getD xs 0 0 ≡ 1 → getD xs 1 0 ≡ 0 → getD xs 2 0 ≡ 0 → getD xs 3 0 ≡ 0 → reading k xs ≡ register-rest k (drop 4 xs)
@@ -44,3 +44,13 @@ either-way false n name k a r e = (refl, e)
 pub register-refused : (k : ℕ) (xs : List ℕ) (a : ℕ) (r : Option ℕ) → length xs ≡ 32 → getD xs 0 0 ≡ 1 → refused a r ≡ reading k xs → (numbered k (reading k xs) ≡ false) × (refused a r ≡ refused 13 (Some k))
 register-refused k xs a r n p =
     rw (n, p) (either-way _ (be32 xs 4) (name-in (drop 8 xs)) k a r)
+
+only-here : (k a : ℕ) (r : Option ℕ) (x y z : Bool) (n : ℕ) (name : List ℕ) (p : Pair) → refused a r ≡ cond x (cond y (register n name) (cond z (delay p) (refused 13 (Some k)))) (refused 12 (Some k)) → r ≡ Some k
+only-here k a r true true z n name p e = absurd (let q : _≡_ {A = ℕ} 0 1 = cc in omega arith)
+only-here k a r true false true n name p e = absurd (let q : _≡_ {A = ℕ} 0 1 = cc in omega arith)
+only-here k a r true false false n name p e = cc
+only-here k a r false y z n name p e = cc
+
+-- a record that is refused is the one at fault
+pub refused-here : (k a : ℕ) (r : Option ℕ) (xs : List ℕ) → refused a r ≡ reading k xs → r ≡ Some k
+refused-here k a r xs = only-here k a r (eqb (length xs) 32) (starts 1 xs && lawful-field (drop 8 xs)) (starts 2 xs && every is-zero (drop 20 xs)) (be32 xs 4) (name-in (drop 8 xs)) (pair-fields xs)

@@ -5,7 +5,7 @@ use mathlib.Core.Path.{_≡_}
 use Prim.Native.Nat.{ℕ, _+_, _-_, _*_, _/_, _%_, min, max}
 use lib.Dec.{eqb, leb, ltb}
 use lib.ListN.{length, getD, take, drop}
-use denote.Ref.{RefT, now}
+use denote.Ref.{now}
 use Rattle.std.specs.Iters.{counting}
 use Rattle.std.specs.declared.option.Option.{Option}
 use Rattle.std.specs.declared.option.Option.the-variants.{None, Some}
@@ -17,7 +17,7 @@ use Rattle.timing.specs.Table.{refusal-number}
 use Rattle.timing.specs.declared.pair.Pair.{Pair}
 use Rattle.delay_file.specs.declared.fault.Fault.{Fault}
 use Rattle.delay_file.specs.declared.view.FileView.{FileView}
-use Rattle.delay_file.specs.Records.{Reading, register, delay, refused, reading, fault-seen}
+use Rattle.delay_file.specs.Records.{Reading, register, delay, refused, reading, name-of, fault-seen}
 
 -- how many whole records there are
 abbrev pub record-count : List ℕ → ℕ
@@ -90,12 +90,6 @@ view-meaning v = file-meaning (now (v .bytes)) (view-registers v)
 abbrev pub record-answer : FileView → ℕ → Reading
 record-answer v k = cond (ltb k (record-count (now (v .bytes)))) (reading k (record-at (now (v .bytes)) k)) (refused 5 None)
 
--- the name in a reading
-abbrev pub name-of : Reading → Option (List ℕ)
-name-of (register number name) = Some name
-name-of (delay p) = None
-name-of (refused number at) = None
-
 -- the name of a register
 abbrev pub register-name : FileView → ℕ → Option (List ℕ)
 register-name v r = cond (ltb r (view-registers v)) (name-of (record-answer v r)) None
@@ -109,11 +103,6 @@ located k (faulty number) = refused number (Some k)
 abbrev pub entry-answer : FileView → ℕ → Reading
 entry-answer v place =
     cond (ltb place (length (view-meaning v .entries))) (located (view-registers v + place) (entry-at (view-meaning v) place)) (refused 5 None)
-
--- a borrowed name by its bytes
-abbrev pub borrowed : Option (RefT (List ℕ)) → Option (List ℕ)
-borrowed None = None
-borrowed (Some name) = Some (name .now)
 
 -- an answer of the code as an opening
 abbrev pub opened-as : Result FileView Fault → Opening

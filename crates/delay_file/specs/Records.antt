@@ -2,10 +2,11 @@
 use mathlib.Core.Bool.{Bool, cond, _&&_}
 use mathlib.Core.List.{List, [], _∷_, _++_}
 use Prim.Native.Nat.{ℕ, _-_}
+use denote.Ref.{RefT}
 use lib.Dec.{eqb, leb}
 use lib.ListN.{length, getD, take, drop, replicate}
 use Rattle.std.specs.declared.option.Option.{Option}
-use Rattle.std.specs.declared.option.Option.the-variants.{Some}
+use Rattle.std.specs.declared.option.Option.the-variants.{None, Some}
 use Rattle.std.specs.declared.result.Result.{Result}
 use Rattle.std.specs.declared.result.Result.the-variants.{Ok, Err}
 use Rattle.std.specs.shelf.Lists.{leading}
@@ -77,6 +78,17 @@ seen (Err f) = fault-seen f
 abbrev pub seen-pair : Result Pair Fault → Reading
 seen-pair (Ok p) = delay p
 seen-pair (Err f) = fault-seen f
+
+-- the name in a reading
+abbrev pub name-of : Reading → Option (List ℕ)
+name-of (register number name) = Some name
+name-of (delay p) = None
+name-of (refused number at) = None
+
+-- a borrowed name by its bytes
+abbrev pub borrowed : Option (RefT (List ℕ)) → Option (List ℕ)
+borrowed None = None
+borrowed (Some name) = Some (name .now)
 
 -- the bytes of a register record and of a pair record
 abbrev pub register-bytes : ℕ → List ℕ → List ℕ

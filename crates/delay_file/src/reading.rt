@@ -1,4 +1,5 @@
-ghost use Rattle.delay_file.specs.Records.{pair-rest, reading, register-rest, seen, seen-pair};
+ghost use Rattle.delay_file.specs.Records.{borrowed, name-of, pair-rest, reading, register-rest, seen, seen-pair};
+ghost use Rattle.std.specs.declared.result.Result.the-variants.{Ok};
 ghost use lib.ListN.{length};
 ghost use mathlib.Core.Path.{_≡_};
 use crate::fault::Fault;
@@ -18,6 +19,18 @@ use timing::refusal::Refusal;
 pub enum Record<'a> {
     Register { number: u32, name: &'a [u8] },
     Delay(Pair),
+}
+
+impl<'a> Record<'a> {
+    // The name, if this is a register.
+    pub fn name(self) -> Option<&'a [u8]>
+        ensures { λ r. ⌜ borrowed r ≡ name-of (seen (Ok (self .entry))) ⌝ }
+    {
+        match self {
+            Record::Register { name, .. } => Some(name),
+            Record::Delay(_) => None,
+        }
+    }
 }
 
 // Reads the bytes of one record, whose number in its file a fault will name.

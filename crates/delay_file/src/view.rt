@@ -1,6 +1,6 @@
 ghost use Prim.Native.Nat.{ℕ, _<_};
-ghost use Rattle.delay_file.specs.Files.{Judged-register, Judged-run, borrowed, entry-answer, entry-of, located, opened-as, opening, record-answer, record-at, record-count, register-at, register-name, register-run, view-registers};
-ghost use Rattle.delay_file.specs.Records.{reading, seen, seen-pair};
+ghost use Rattle.delay_file.specs.Files.{Judged-register, Judged-run, entry-answer, entry-of, located, opened-as, opening, record-answer, record-at, record-count, register-at, register-name, register-run, view-registers};
+ghost use Rattle.delay_file.specs.Records.{borrowed, reading, seen, seen-pair};
 ghost use Rattle.std.specs.Vec.{made};
 ghost use lib.ListN.{length};
 ghost use mathlib.Core.Bool.{true};
@@ -61,6 +61,46 @@ impl<'a> FileView<'a> {
             return Err(Fault::of_file(Refusal::NoSuchEntry));
         }
         decode(record_bytes(self.bytes, number), number)
+    }
+
+    // The name of a register, which is that part of the file itself.
+    pub fn name(&self, register: u32) -> Option<&'a [u8]>
+        ensures { λ r. ⌜ borrowed r ≡ register-name (now (self .entry)) register ⌝ }
+    {
+        if register >= self.registers() {
+            return None;
+        }
+        match self.record(register as usize) {
+            Ok(record) => record.name(),
+            Err(_) => None,
+        }
+    }
+
+    // The entry at a place, counted from 0 behind the registers, with the record at fault where it is faulty.
+    pub fn pair(&self, place: usize) -> Result<Pair, Fault>
+        ensures { λ r. ⌜ seen-pair r ≡ entry-answer (now (self .entry)) place ⌝ }
+    {
+        let registers = self.registers();
+        let first = registers as usize;
+        if place >= self.record_count().saturating_sub(first) {
+            return Err(Fault::of_file(Refusal::NoSuchEntry));
+        }
+        let record = first + place;
+        entry_in(record_bytes(self.bytes, record), record, registers)
+    }
+}
+
+// What a record past the registers is worth among so many registers.
+fn entry_in(bytes: &[u8], record: usize, registers: u32) -> Result<Pair, Fault>
+    requires { ⌜ length (now bytes) ≡ 32 ⌝ }
+    ensures { λ r. ⌜ seen-pair r ≡ located «record» (entry-of registers (reading «record» (now (bytes .entry)))) ⌝ }
+{
+    match decode(bytes, record)? {
+        Record::Register { .. } => Err(Fault::at(Refusal::MalformedRecord, record)),
+        Record::Delay(pair) => match pair.validate(registers) {
+            Ok(pair) => Ok(pair),
+            Err(refusal) => Err(Fault::at(refusal, record)),
+        },
     }
 }
 
