@@ -3,6 +3,7 @@
 pub mod encoding;
 pub mod fault;
 mod fields;
+pub mod file_source;
 pub mod layout;
 pub mod reading;
 pub mod view;
