@@ -1,6 +1,7 @@
 -- A record of a delay file: what 32 bytes read as, and which bytes a register or a pair is written as.
-use mathlib.Core.Bool.{Bool, cond, _&&_}
+use mathlib.Core.Bool.{Bool, true, cond, _&&_}
 use mathlib.Core.List.{List, [], _∷_, _++_}
+use mathlib.Core.Path.{_≡_}
 use Prim.Native.Nat.{ℕ, _-_}
 use denote.Ref.{RefT}
 use lib.Dec.{eqb, leb}
@@ -101,3 +102,9 @@ pair-bytes p =
 -- the register record of a number and a name, if the name is lawful
 abbrev pub written : ℕ → List ℕ → Result (List ℕ) Refusal
 written number name = cond (lawful-name name) (Ok (register-bytes number name)) (Err MalformedRecord)
+
+-- The format has one spelling: bytes that read as a register or a pair are the ones that writing it gives.
+abbrev pub Spelled : List ℕ → Reading → Type 0
+Spelled xs (register number name) = (lawful-name name ≡ true) × (xs ≡ register-bytes number name)
+Spelled xs (delay p) = xs ≡ pair-bytes p
+Spelled xs (refused number at) = Unit {0}

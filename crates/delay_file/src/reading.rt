@@ -1,4 +1,4 @@
-ghost use Rattle.delay_file.specs.Records.{borrowed, name-of, pair-rest, reading, register-rest, seen, seen-pair};
+ghost use Rattle.delay_file.specs.Records.{Spelled, borrowed, name-of, pair-rest, reading, register-rest, seen, seen-pair};
 ghost use Rattle.std.specs.declared.result.Result.the-variants.{Ok};
 ghost use lib.ListN.{length};
 ghost use mathlib.Core.Path.{_≡_};
@@ -33,9 +33,11 @@ impl<'a> Record<'a> {
     }
 }
 
-// Reads the bytes of one record, whose number in its file a fault will name.
+// Reads the bytes of one record, whose number in its file a fault will name. What reads as a register or a pair is,
+// byte for byte, what writing it gives.
 pub fn decode<'a>(bytes: &'a [u8], record: usize) -> Result<Record<'a>, Fault>
-    ensures { λ r. ⌜ seen r ≡ reading «record» (now (bytes .entry)) ⌝ }
+    ensures value { λ r. ⌜ seen r ≡ reading «record» (now (bytes .entry)) ⌝ }
+    ensures spelled { λ r. ⌜ Spelled (now (bytes .entry)) (seen r) ⌝ }
 {
     if bytes.len() != RECORD_BYTES {
         return Err(Fault::at(Refusal::NotWholeRecords, record));

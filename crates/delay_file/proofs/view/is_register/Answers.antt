@@ -22,5 +22,5 @@ returns-in-Break-number c =
     let b = c .record-bytes-part .ensures .bytes in
     let n = ap length (sym b) ∙ c .record-bytes-part .ensures .length in
     let p = ap (λ xs. getD xs 0 0) (sym b) ∙ c .if-part-ne-REGISTER .left in
-    let h = register-refused k (record-at (c .args .bytes .now) k) _ _ n p (c .in-Break-number .ensures tt ∙ ap (reading k) b) in
+    let h = register-refused k (record-at (c .args .bytes .now) k) _ _ n p (c .in-Break-number .ensures tt .value ∙ ap (reading k) b) in
     rw (q .1, q .2) (h .0, eq-eqb _ _ p, h .1)
