@@ -64,7 +64,7 @@ lawful-view v =
     let ks = counting n (record-count (now (v .bytes)) - n) in
     record {
       count = (omega arith, omega arith);
-      each = all-map (Lawful-entry n) (entry-in v n) ks (all-lawful n (λ k. reading k (record-at (now (v .bytes)) k)) ks)
+      each = all-map (Lawful-entry n) (entry-in v n) ks (all-lawful n (λ k. reading k (record-at (now (v .bytes)) k)) ks);
     }
 
 -- an answer without its record
@@ -81,8 +81,8 @@ bare-answer : (v : FileView) (place : ℕ) → bare (entry-answer v place) ≡ e
 bare-answer v place =
     let m = view-meaning v in
     cond-both (ltb place (length (m .entries))) (located (view-registers v + place) (entry-at m place)) (refused 5 None) (λ x. bare x ≡ entry-at m place)
-      (λ _. bare-located (view-registers v + place) (entry-at m place))
-      (λ e. sym (getD-past (m .entries) place (faulty 5) (ltb-false _ _ e)))
+    (λ _. bare-located (view-registers v + place) (entry-at m place))
+    (λ e. sym (getD-past (m .entries) place (faulty 5) (ltb-false _ _ e)))
 
 -- what the source answers, from what the view answers
 pub answered-entry : (v : FileView) (place : ℕ) (e : Entry) (x : Reading) → bare x ≡ e → x ≡ entry-answer v place → e ≡ entry-at (view-meaning v) place

@@ -17,7 +17,6 @@ use Rattle.delay_file.specs.Bytes.{be32, beZ, every, is-zero}
 use Rattle.delay_file.specs.Files.{numbered}
 use Rattle.delay_file.specs.Records.{Reading, register, delay, refused, reading, register-rest, pair-rest, starts, pair-fields, name-in, lawful-field}
 
-
 pub reading-1 : (k : ℕ) (xs : List ℕ) → length xs ≡ 32 → getD xs 0 0 ≡ 1 → getD xs 1 0 ≡ 0 → getD xs 2 0 ≡ 0 → getD xs 3 0 ≡ 0 → reading k xs ≡ register-rest k (drop 4 xs)
 reading-1 k xs n p q r s = rw (n, p, q, r, s) (simp (drop-drop, getD-drop))
 

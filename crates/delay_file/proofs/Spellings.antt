@@ -48,7 +48,6 @@ pub pair-reads-back : (k : ℕ) (p : Pair) → p .launch < 4294967296 → p .cap
 pair-reads-back k p a b f g u v =
     same-delay (pair-fields (pair-bytes p)) p (four (p .launch) a) (four (p .capture) b) (fourZ (p .min) f u) (fourZ (p .max) g v)
 
-
 leading-zeros : (m : ℕ) → leading not-zero (replicate m 0) ≡ 0
 leading-zeros zero = refl
 leading-zeros (suc m) = refl
@@ -161,8 +160,8 @@ by-cases false y z k xs n name p f g = tt
 pub spelled : (k : ℕ) (xs : List ℕ) → ((i : ℕ) → getD xs i 0 < 256) → Spelled xs (reading k xs)
 spelled k xs bytes =
     by-cases (eqb (length xs) 32) (starts 1 xs && lawful-field (drop 8 xs)) (starts 2 xs && every is-zero (drop 20 xs)) k xs (be32 xs 4) (name-in (drop 8 xs)) (pair-fields xs)
-      (λ n h. let a = and-parts (starts 1 xs) _ h in (and-parts (lawful-name (name-in (drop 8 xs))) _ (a .1) .0, register-spelled xs bytes (eqb-true _ _ n) (a .0) (a .1)))
-      (λ n h. let a = and-parts (starts 2 xs) _ h in pair-spelled xs bytes (eqb-true _ _ n) (a .0) (a .1))
+    (λ n h. let a = and-parts (starts 1 xs) _ h in (and-parts (lawful-name (name-in (drop 8 xs))) _ (a .1) .0, register-spelled xs bytes (eqb-true _ _ n) (a .0) (a .1)))
+    (λ n h. let a = and-parts (starts 2 xs) _ h in pair-spelled xs bytes (eqb-true _ _ n) (a .0) (a .1))
 
 -- the same of an answer that is the reading
 pub spelled-as : (k : ℕ) (xs : List ℕ) (x : Reading) → ((i : ℕ) → Fits w8 (getD xs i 0)) → x ≡ reading k xs → Spelled xs x

@@ -2,10 +2,10 @@ ghost use Prim.Native.Nat.{ℕ};
 ghost use Rattle.delay_file.specs.Records.{delay, pair-bytes, reading, register, written};
 ghost use Rattle.std.specs.Vec.{made};
 ghost use mathlib.Core.Path.{_≡_};
-use crate::fields::is_lawful_name;
 use crate::layout::PAIR;
 use crate::layout::RECORD_BYTES;
 use crate::layout::REGISTER;
+use crate::names::is_lawful_name;
 use timing::pair::Pair;
 use timing::refusal::Refusal;
 

@@ -18,13 +18,19 @@ impl Fault {
     pub fn of_file(refusal: Refusal) -> Fault
         ensures { λ r. ⌜ r ≡ record { refusal = refusal; «record» = None } ⌝ }
     {
-        Fault { refusal, record: None }
+        Fault {
+            refusal,
+            record: None,
+        }
     }
 
     // One record is at fault.
     pub fn at(refusal: Refusal, record: usize) -> Fault
         ensures { λ r. ⌜ r ≡ record { refusal = refusal; «record» = Some «record» } ⌝ }
     {
-        Fault { refusal, record: Some(record) }
+        Fault {
+            refusal,
+            record: Some(record),
+        }
     }
 }

@@ -13,7 +13,8 @@ pub impl DelaySource for FileView<'_> as FileSource {
     }
 
     fn entry_count(&self) -> usize {
-        self.record_count().saturating_sub(self.registers() as usize)
+        self.record_count()
+            .saturating_sub(self.registers() as usize)
     }
 
     fn entry(&self, place: usize) -> Result<Pair, Refusal> {

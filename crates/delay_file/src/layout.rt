@@ -5,6 +5,7 @@
 pub const RECORD_BYTES: usize = 32;
 // The kinds of record, which stand in byte 0.
 pub const REGISTER: u8 = 1;
+
 pub const PAIR: u8 = 2;
 // The longest name of a register.
 pub const MAX_NAME: usize = 24;

@@ -5,5 +5,6 @@ pub mod fault;
 mod fields;
 pub mod file_source;
 pub mod layout;
+pub mod names;
 pub mod reading;
 pub mod view;

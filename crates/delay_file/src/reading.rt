@@ -6,11 +6,11 @@ use crate::fault::Fault;
 use crate::fields::all_zero;
 use crate::fields::delay_at;
 use crate::fields::first_zero;
-use crate::fields::is_lawful_name;
 use crate::fields::word_at;
 use crate::layout::PAIR;
 use crate::layout::RECORD_BYTES;
 use crate::layout::REGISTER;
+use crate::names::is_lawful_name;
 use timing::pair::Pair;
 use timing::refusal::Refusal;
 
@@ -66,7 +66,10 @@ fn register_in<'a>(rest: &'a [u8], record: usize) -> Result<Record<'a>, Fault>
     if !is_lawful_name(name) || !all_zero(&field[end..]) {
         return Err(Fault::at(Refusal::MalformedRecord, record));
     }
-    Ok(Record::Register { number: word_at(rest, 0), name })
+    Ok(Record::Register {
+        number: word_at(rest, 0),
+        name,
+    })
 }
 
 // The rest of a pair record: its four fields, and zeros.

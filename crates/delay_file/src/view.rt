@@ -36,7 +36,10 @@ impl<'a> FileView<'a> {
         if registers < 1 || registers > MAX_REGISTERS as usize {
             return Err(Fault::of_file(Refusal::RegisterCount));
         }
-        Ok(FileView { bytes, registers: registers as u32 })
+        Ok(FileView {
+            bytes,
+            registers: registers as u32,
+        })
     }
 
     // How many registers the file has.

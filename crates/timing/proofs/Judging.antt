@@ -20,7 +20,7 @@ in-limits n p r d =
       capture-there = grind (arith, tells);
       min-within = grind (arith, ints);
       in-order = grind (arith, ints);
-      max-within = grind (arith, ints)
+      max-within = grind (arith, ints);
     }
 
 pub lawful-judged : (n : ℕ) (p : Pair) → Lawful-entry n (judged n p)

@@ -40,9 +40,17 @@ pub enum Refusal {
     NotWholeRecords,
     MalformedRecord,
     DelayMissing,
-    FaultyEntry { place: usize },
-    DraftNotLegal { part: Part, place: usize, excess: u32 },
-    WitnessUnsound { link: usize },
+    FaultyEntry {
+        place: usize,
+    },
+    DraftNotLegal {
+        part: Part,
+        place: usize,
+        excess: u32,
+    },
+    WitnessUnsound {
+        link: usize,
+    },
 }
 
 impl Refusal {

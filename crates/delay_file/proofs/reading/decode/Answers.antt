@@ -17,9 +17,9 @@ returns-then-reserved1-ne0 c =
     let xs = c .args .bytes .now in
     let n = c .if-bytes-ne-RECORD-BYTES .left in
     let q : fault-seen (c .at-then-reserved1-ne0 .result) ≡ reading k xs = elim (c .then-reserved1-ne0 .came) [
-      then-reserved1-ne0·by·then-reserved1-ne0 w ↦ e ∙ sym (reading-other k xs n (grind (arith, tells)) (grind (arith, tells)))
-    | then-reserved1-ne0·by·else-reserved1-ne0·then-reserved2-ne0 w ↦ e ∙ sym (reading-other k xs n (grind (arith, tells)) (grind (arith, tells)))
-    | then-reserved1-ne0·by·else-reserved1-ne0·else-reserved2-ne0·then-reserved3-ne0 w ↦ e ∙ sym (reading-other k xs n (grind (arith, tells)) (grind (arith, tells)))
+      | then-reserved1-ne0·by·then-reserved1-ne0 w ↦ e ∙ sym (reading-other k xs n (grind (arith, tells)) (grind (arith, tells)))
+      | then-reserved1-ne0·by·else-reserved1-ne0·then-reserved2-ne0 w ↦ e ∙ sym (reading-other k xs n (grind (arith, tells)) (grind (arith, tells)))
+      | then-reserved1-ne0·by·else-reserved1-ne0·else-reserved2-ne0·then-reserved3-ne0 w ↦ e ∙ sym (reading-other k xs n (grind (arith, tells)) (grind (arith, tells)))
     ] in
     record { value = q; spelled = spelled-as k xs _ (c .typed .bytes) q }
 

@@ -17,13 +17,13 @@ returns-then-not-is-lawful-name c =
     let t = take-rest (c .args .rest .now) 4 in
     let n : leading not-zero (drop 4 (c .args .rest .now)) ≡ c .first-zero-end .result = ap (leading not-zero) (sym t) ∙ sym (c .first-zero-end .ensures .0) in
     elim (c .then-not-is-lawful-name .came) [
-      then-not-is-lawful-name·by·then-not-is-lawful-name w ↦
-        let g = simp (take-rest, sub-zero) at (sym (c .is-lawful-name .ensures) ∙ w .if-not-is-lawful-name .taken) in
-        rw (n, g) (ap fault-seen (c .at .ensures))
-    | then-not-is-lawful-name·by·else-not-is-lawful-name·then-not-all-zero w ↦
-        let g = simp (take-rest, sub-zero) at (sym (c .is-lawful-name .ensures) ∙ w .if-not-is-lawful-name .left) in
-        let p = ap (every is-zero) (sym (cut-rest (c .args .rest .now) 4 (c .first-zero-end .result))) ∙ sym (w .all-zero .ensures) ∙ w .if-not-all-zero .taken in
-        rw (n, g, p) (ap fault-seen (c .at .ensures))
+      | then-not-is-lawful-name·by·then-not-is-lawful-name w ↦
+          let g = simp (take-rest, sub-zero) at (sym (c .is-lawful-name .ensures) ∙ w .if-not-is-lawful-name .taken) in
+          rw (n, g) (ap fault-seen (c .at .ensures))
+      | then-not-is-lawful-name·by·else-not-is-lawful-name·then-not-all-zero w ↦
+          let g = simp (take-rest, sub-zero) at (sym (c .is-lawful-name .ensures) ∙ w .if-not-is-lawful-name .left) in
+          let p = ap (every is-zero) (sym (cut-rest (c .args .rest .now) 4 (c .first-zero-end .result))) ∙ sym (w .all-zero .ensures) ∙ w .if-not-all-zero .taken in
+          rw (n, g, p) (ap fault-seen (c .at .ensures))
     ]
 
 pub returns : need.returns
