@@ -1,21 +1,61 @@
 use crate::line::Line;
 use crate::line::PairLine;
 use crate::line::read_line;
-use crate::mistake::Mistake;
 use crate::mistake::Problem;
 use delay_file::names::is_lawful_name;
 use std::alloc::AllocError;
 use std::alloc::Global;
 use std::collections::BTreeMap;
+use timing::limits::MAX_REGISTERS;
 use timing::pair::Pair;
 
 // A circuit as its text has it: the names of its registers by their number, its pairs in their order, and the lines
-// that could not be read.
+// that could not be read, counted from 1, with what is wrong with each.
 #[derive(Drop)]
 pub struct Circuit<'t> {
     pub names: Vec<&'t str>,
     pub pairs: Vec<Pair>,
-    pub mistakes: Vec<Mistake<'t>>,
+    pub mistakes: BTreeMap<usize, Problem<'t>>,
+}
+
+// What is known while a text is read: the number of each name, and the pairs, which wait until every name is known.
+#[derive(Drop)]
+struct Lines<'t> {
+    numbers: BTreeMap<&'t str, u32>,
+    pairs: Vec<(usize, PairLine<'t>)>,
+}
+
+impl<'t> Lines<'t> {
+    fn note(
+        &mut self,
+        circuit: &mut Circuit<'t>,
+        at: usize,
+        line: &'t str,
+    ) -> Result<(), AllocError> {
+        match read_line(line) {
+            Ok(Line::Blank) => {}
+            Ok(Line::Pair(pair)) => self.pairs.push((at, pair))?,
+            Ok(Line::Register(name)) => self.note_register(circuit, at, name)?,
+            Err(problem) => circuit.note_mistake(at, problem)?,
+        }
+        Ok(())
+    }
+
+    fn note_register(
+        &mut self,
+        circuit: &mut Circuit<'t>,
+        at: usize,
+        name: &'t str,
+    ) -> Result<(), AllocError> {
+        match next_number(&self.numbers, name) {
+            Ok(number) => {
+                self.numbers.insert(name, number)?;
+                circuit.names.push(name)?;
+            }
+            Err(problem) => circuit.note_mistake(at, problem)?,
+        }
+        Ok(())
+    }
 }
 
 // Reads a whole text. Registers are numbered in the order of their lines; a pair may stand before its registers.
@@ -23,94 +63,61 @@ pub fn read_circuit<'t>(heap: Global, text: &'t str) -> Result<Circuit<'t>, Allo
     let mut circuit = Circuit {
         names: Vec::new(heap),
         pairs: Vec::new(heap),
-        mistakes: Vec::new(heap),
+        mistakes: BTreeMap::new(heap),
     };
-    let mut numbers = BTreeMap::new(heap);
-    let mut pair_lines = Vec::new(heap);
-    let mut number: usize = 0;
-    for line in text.lines() {
-        number = number.saturating_add(1);
-        match read_line(line) {
-            Ok(Line::Blank) => {}
-            Ok(Line::Register(name)) => add_register(&mut circuit, &mut numbers, number, name)?,
-            Ok(Line::Pair(pair)) => pair_lines.push((number, pair))?,
-            Err(problem) => circuit
-                .mistakes
-                .push(Mistake {
-                    line: number,
-                    problem,
-                })?,
-        }
+    let mut lines = Lines {
+        numbers: BTreeMap::new(heap),
+        pairs: Vec::new(heap),
+    };
+    for (index, line) in text.lines().enumerate() {
+        lines.note(&mut circuit, index.saturating_add(1), line)?;
     }
-    for (line, pair) in pair_lines.iter() {
-        add_pair(&mut circuit, &numbers, *line, *pair)?;
+    for (at, line) in lines.pairs.iter() {
+        circuit.note_pair(*at, resolved(&lines.numbers, *line))?;
     }
     Ok(circuit)
 }
 
-fn add_register<'t>(
-    circuit: &mut Circuit<'t>,
-    numbers: &mut BTreeMap<&'t str, u32>,
-    line: usize,
-    name: &'t str,
-) -> Result<(), AllocError> {
+impl<'t> Circuit<'t> {
+    fn note_pair(&mut self, at: usize, pair: Result<Pair, Problem<'t>>) -> Result<(), AllocError> {
+        match pair {
+            Ok(pair) => self.pairs.push(pair)?,
+            Err(problem) => self.note_mistake(at, problem)?,
+        }
+        Ok(())
+    }
+
+    fn note_mistake(&mut self, at: usize, problem: Problem<'t>) -> Result<(), AllocError> {
+        self.mistakes.insert(at, problem)?;
+        Ok(())
+    }
+}
+// The number of a new register, if it may have its name.
+fn next_number<'t>(numbers: &BTreeMap<&'t str, u32>, name: &'t str) -> Result<u32, Problem<'t>> {
     if !is_lawful_name(name.as_bytes()) {
-        circuit
-            .mistakes
-            .push(Mistake {
-                line,
-                problem: Problem::Name(name),
-            })?;
-        return Ok(());
+        return Err(Problem::Name(name));
     }
     if numbers.contains_key(name) {
-        circuit
-            .mistakes
-            .push(Mistake {
-                line,
-                problem: Problem::NameAgain(name),
-            })?;
-        return Ok(());
+        return Err(Problem::NameAgain(name));
     }
-    let Ok(number) = u32::try_from(circuit.names.len()) else {
-        return Err(AllocError);
-    };
-    numbers.insert(name, number)?;
-    circuit.names.push(name)?;
-    Ok(())
+    match u32::try_from(numbers.len()) {
+        Ok(number) if number < MAX_REGISTERS => Ok(number),
+        _ => Err(Problem::TooManyRegisters),
+    }
 }
 
-fn add_pair<'t>(
-    circuit: &mut Circuit<'t>,
-    numbers: &BTreeMap<&'t str, u32>,
-    line: usize,
-    pair: PairLine<'t>,
-) -> Result<(), AllocError> {
-    let Some(launch) = numbers.get(pair.launch) else {
-        circuit
-            .mistakes
-            .push(Mistake {
-                line,
-                problem: Problem::NoSuchName(pair.launch),
-            })?;
-        return Ok(());
+// A pair by the numbers of its registers.
+fn resolved<'t>(numbers: &BTreeMap<&'t str, u32>, line: PairLine<'t>) -> Result<Pair, Problem<'t>> {
+    let Some(launch) = numbers.get(line.launch) else {
+        return Err(Problem::NoSuchName(line.launch));
     };
-    let Some(capture) = numbers.get(pair.capture) else {
-        circuit
-            .mistakes
-            .push(Mistake {
-                line,
-                problem: Problem::NoSuchName(pair.capture),
-            })?;
-        return Ok(());
+    let Some(capture) = numbers.get(line.capture) else {
+        return Err(Problem::NoSuchName(line.capture));
     };
-    circuit
-        .pairs
-        .push(Pair {
-            launch: *launch,
-            capture: *capture,
-            min: pair.min,
-            max: pair.max,
-        })?;
-    Ok(())
+    Ok(Pair {
+        launch: *launch,
+        capture: *capture,
+        min: line.min,
+        max: line.max,
+    })
 }

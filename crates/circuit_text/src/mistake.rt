@@ -10,13 +10,7 @@ pub enum Problem<'t> {
     NameAgain(&'t str),
     NoSuchName(&'t str),
     Delay(&'t str),
-}
-
-// A line, counted from 1, and what is wrong with it.
-#[derive(Clone, Copy)]
-pub struct Mistake<'t> {
-    pub line: usize,
-    pub problem: Problem<'t>,
+    TooManyRegisters,
 }
 
 pub impl fmt::Display for Problem<'_> as ProblemDisplay {
@@ -32,6 +26,7 @@ pub impl fmt::Display for Problem<'_> as ProblemDisplay {
                 f,
                 "`{word}` is no delay: whole picoseconds, or - where it is missing"
             ),
+            Problem::TooManyRegisters => write!(f, "a circuit has at most 4,096 registers"),
         }
     }
 }

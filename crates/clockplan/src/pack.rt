@@ -1,0 +1,91 @@
+use crate::commands::Outcome;
+use crate::files::read_text;
+use crate::files::write_bytes;
+use crate::show::show_faulty;
+use crate::shown::ShownFault;
+use crate::shown::ShownFaultDisplay;
+use circuit_text::circuit::Circuit;
+use circuit_text::circuit::read_circuit;
+use circuit_text::mistake::ProblemDisplay;
+use delay_file::encoding::encode_pair;
+use delay_file::encoding::encode_register;
+use delay_file::file_source::FileSource;
+use delay_file::view::FileView;
+use std::alloc::Global;
+use std::error::AnyError;
+use timing::source::DelaySource;
+
+// Makes a delay file of a text, saying what was done. Where the text has a mistake, or the file would not open,
+// nothing is written. Entries that are written as the text has them and will be refused are listed.
+pub fn pack(rt: &LibcRuntime, text_path: &str, file_path: &str) -> Result<Outcome, AnyError> {
+    let heap = rt.alloc();
+    let text = read_text(rt, text_path)?;
+    let circuit = read_circuit(heap, text.as_str())?;
+    let registers = circuit.names.len();
+    let pairs = circuit.pairs.len();
+    println!(rt, "read {text_path}: registers {registers}, pairs {pairs}")?;
+    if !circuit.mistakes.is_empty() {
+        return tell_mistakes(rt, &circuit, file_path);
+    }
+    let bytes = records_of(heap, &circuit)?;
+    match FileView::open(bytes.as_slice()) {
+        Ok(view) => {
+            write_bytes(rt, file_path, bytes.as_slice())?;
+            let count = view.record_count();
+            let length = bytes.len();
+            println!(rt, "wrote {file_path}: records {count}, bytes {length}")?;
+            tell_faulty(rt, &view)
+        }
+        Err(fault) => {
+            let fault = ShownFault(fault);
+            println!(rt, "{fault}")?;
+            println!(rt, "{file_path} is not written")?;
+            Ok(Outcome::Refused)
+        }
+    }
+}
+
+fn tell_mistakes(
+    rt: &LibcRuntime,
+    circuit: &Circuit<'_>,
+    file_path: &str,
+) -> Result<Outcome, AnyError> {
+    for (line, problem) in circuit.mistakes.iter() {
+        println!(rt, "line {line}: {problem}")?;
+    }
+    println!(rt, "{file_path} is not written")?;
+    Ok(Outcome::Refused)
+}
+
+fn tell_faulty(rt: &LibcRuntime, view: &FileView<'_>) -> Result<Outcome, AnyError> {
+    let mut out = String::new(rt.alloc());
+    for place in 0..view.entry_count() {
+        if let Err(fault) = view.pair(place) {
+            let record = (view.registers() as usize).saturating_add(place);
+            show_faulty(view, record, fault, &mut out)?;
+        }
+    }
+    rt.print(out.as_str())?;
+    if out.is_empty() {
+        Ok(Outcome::Granted)
+    } else {
+        Ok(Outcome::Refused)
+    }
+}
+
+// The records of a circuit: its registers, then its pairs.
+fn records_of(heap: Global, circuit: &Circuit<'_>) -> Result<Vec<u8>, AnyError> {
+    let mut bytes = Vec::new(heap);
+    let mut number: u32 = 0;
+    for name in circuit.names.iter() {
+        let Ok(record) = encode_register(number, name.as_bytes()) else {
+            return Err("a register has a name that no record can hold".into());
+        };
+        bytes.extend_from_slice(&record)?;
+        number = number.saturating_add(1);
+    }
+    for pair in circuit.pairs.iter() {
+        bytes.extend_from_slice(&encode_pair(*pair))?;
+    }
+    Ok(bytes)
+}
