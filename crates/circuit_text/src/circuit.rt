@@ -13,7 +13,7 @@ use timing::pair::Pair;
 // that could not be read, counted from 1, with what is wrong with each.
 #[derive(Drop)]
 pub struct Circuit<'t> {
-    pub names: Vec<&'t str>,
+    pub names: Vec<&'t [u8]>,
     pub pairs: Vec<Pair>,
     pub mistakes: BTreeMap<usize, Problem<'t>>,
 }
@@ -50,7 +50,7 @@ impl<'t> Lines<'t> {
         match next_number(&self.numbers, name) {
             Ok(number) => {
                 self.numbers.insert(name, number)?;
-                circuit.names.push(name)?;
+                circuit.names.push(name.as_bytes())?;
             }
             Err(problem) => circuit.note_mistake(at, problem)?,
         }

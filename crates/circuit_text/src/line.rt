@@ -36,7 +36,7 @@ pub fn read_delay(word: &str) -> Option<i32>
 }
 
 // What a line says. Its first word decides; a line without words, or that starts with `#`, says nothing.
-pub fn read_line<'t>(line: &'t str) -> Result<Line<'t>, Problem<'t>> {
+pub(crate) fn read_line<'t>(line: &'t str) -> Result<Line<'t>, Problem<'t>> {
     let mut words = line.split_whitespace();
     let Some(first) = words.next() else {
         return Ok(Line::Blank);

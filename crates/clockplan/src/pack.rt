@@ -7,11 +7,12 @@ use crate::shown::ShownFaultDisplay;
 use circuit_text::circuit::Circuit;
 use circuit_text::circuit::read_circuit;
 use circuit_text::mistake::ProblemDisplay;
-use delay_file::encoding::encode_pair;
-use delay_file::encoding::encode_register;
 use delay_file::file_source::FileSource;
+use delay_file::layout::RECORD_BYTES;
 use delay_file::view::FileView;
-use std::alloc::Global;
+use delay_file::whole_file::encode_file;
+use delay_file::write_error::WriteError;
+use std::alloc::AllocError;
 use std::error::AnyError;
 use timing::source::DelaySource;
 
@@ -27,19 +28,28 @@ pub fn pack(rt: &LibcRuntime, text_path: &str, file_path: &str) -> Result<Outcom
     if !circuit.mistakes.is_empty() {
         return tell_mistakes(rt, &circuit, file_path);
     }
-    let bytes = records_of(heap, &circuit)?;
-    match FileView::open(bytes.as_slice()) {
-        Ok(view) => {
-            write_bytes(rt, file_path, bytes.as_slice())?;
-            let count = view.record_count();
-            let length = bytes.len();
-            println!(rt, "wrote {file_path}: records {count}, bytes {length}")?;
-            tell_faulty(rt, &view)
-        }
-        Err(fault) => {
+    match encode_file(heap, circuit.names.as_slice(), circuit.pairs.as_slice()) {
+        Ok(bytes) => write_file(rt, file_path, bytes.as_slice()),
+        Err(WriteError::Refused(fault)) => {
             let fault = ShownFault(fault);
             println!(rt, "{fault}")?;
             println!(rt, "{file_path} is not written")?;
+            Ok(Outcome::Refused)
+        }
+        Err(WriteError::Memory) => Err(AllocError.into()),
+    }
+}
+
+fn write_file(rt: &LibcRuntime, path: &str, bytes: &[u8]) -> Result<Outcome, AnyError> {
+    write_bytes(rt, path, bytes)?;
+    let length = bytes.len();
+    let count = length / RECORD_BYTES;
+    println!(rt, "wrote {path}: records {count}, bytes {length}")?;
+    match FileView::open(bytes) {
+        Ok(view) => tell_faulty(rt, &view),
+        Err(fault) => {
+            let fault = ShownFault(fault);
+            println!(rt, "{fault}")?;
             Ok(Outcome::Refused)
         }
     }
@@ -71,21 +81,4 @@ fn tell_faulty(rt: &LibcRuntime, view: &FileView<'_>) -> Result<Outcome, AnyErro
     } else {
         Ok(Outcome::Refused)
     }
-}
-
-// The records of a circuit: its registers, then its pairs.
-fn records_of(heap: Global, circuit: &Circuit<'_>) -> Result<Vec<u8>, AnyError> {
-    let mut bytes = Vec::new(heap);
-    let mut number: u32 = 0;
-    for name in circuit.names.iter() {
-        let Ok(record) = encode_register(number, name.as_bytes()) else {
-            return Err("a register has a name that no record can hold".into());
-        };
-        bytes.extend_from_slice(&record)?;
-        number = number.saturating_add(1);
-    }
-    for pair in circuit.pairs.iter() {
-        bytes.extend_from_slice(&encode_pair(*pair))?;
-    }
-    Ok(bytes)
 }

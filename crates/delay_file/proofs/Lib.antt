@@ -3,3 +3,4 @@ pub mod Runs
 pub mod Scans
 pub mod Shapes
 pub mod Spellings
+pub mod Written

@@ -1,6 +1,6 @@
 -- A whole delay file: for every byte string, of any length and content, what it means or why it is refused.
 use mathlib.Core.Bool.{Bool, true, false, cond, _&&_}
-use mathlib.Core.List.{List, map}
+use mathlib.Core.List.{List, [], _∷_, _++_, map}
 use mathlib.Core.Path.{_≡_}
 use Prim.Native.Nat.{ℕ, _+_, _-_, _*_, _/_, _%_, min, max}
 use lib.Dec.{eqb, leb, ltb}
@@ -17,7 +17,7 @@ use Rattle.timing.specs.Table.{refusal-number}
 use Rattle.timing.specs.declared.pair.Pair.{Pair}
 use Rattle.delay_file.specs.declared.fault.Fault.{Fault}
 use Rattle.delay_file.specs.declared.view.FileView.{FileView}
-use Rattle.delay_file.specs.Records.{Reading, register, delay, refused, reading, name-of, fault-seen}
+use Rattle.delay_file.specs.Records.{Reading, register, delay, refused, reading, name-of, fault-seen, register-bytes, pair-bytes, lawful-name}
 
 -- how many whole records there are
 abbrev pub record-count : List ℕ → ℕ
@@ -120,3 +120,36 @@ Judged-register bytes k (Err f) = (register-at bytes k ≡ false) × (register-k
 abbrev pub Judged-run : List ℕ → Result ℕ Fault → Type 0
 Judged-run bytes (Ok n) = (n ≡ register-run bytes) × (broken-run bytes n ≡ false)
 Judged-run bytes (Err f) = (broken-run bytes (register-run bytes) ≡ true) × (fault-seen f ≡ refused 13 (Some (register-run bytes)))
+
+-- the records of a file with these names of registers and these pairs: the registers, numbered from k, then the pairs
+abbrev pub register-records : ℕ → List (List ℕ) → List (List ℕ)
+register-records k [] = []
+register-records k (name ∷ names) = register-bytes k name ∷ register-records (k + 1) names
+
+abbrev pub file-records : List (List ℕ) → List Pair → List (List ℕ)
+file-records names pairs = register-records 0 names ++ map pair-bytes pairs
+
+-- records one behind the other
+abbrev pub joined : List (List ℕ) → List ℕ
+joined [] = []
+joined (x ∷ xs) = x ++ joined xs
+
+-- the bytes of such a file
+abbrev pub file-bytes : List (List ℕ) → List Pair → List ℕ
+file-bytes names pairs = joined (file-records names pairs)
+
+-- the circuit that such a file is made of: each pair is an entry, judged among the registers
+abbrev pub circuit-meaning : List (List ℕ) → List Pair → Meaning
+circuit-meaning names pairs = record { registers = length names; entries = map (judged (length names)) pairs }
+
+-- the answer to names and pairs that are to be written: the bytes of the file, or a refusal's number with its record
+pub data Writing : Type 0 where
+  written-as : List ℕ → Writing
+  unwritten : ℕ → Option ℕ → Writing
+
+-- 1 for the number of names, then 13 at the first that no register may have
+abbrev pub writing : List (List ℕ) → List Pair → Writing
+writing names pairs =
+    cond (leb 1 (length names) && leb (length names) 4096)
+    (cond (eqb (leading lawful-name names) (length names)) (written-as (file-bytes names pairs)) (unwritten 13 (Some (leading lawful-name names))))
+    (unwritten 1 None)

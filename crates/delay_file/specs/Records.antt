@@ -99,6 +99,10 @@ abbrev pub pair-bytes : Pair → List ℕ
 pair-bytes p =
     2 ∷ (0 ∷ (0 ∷ (0 ∷ (bytes-of (p .launch) ++ (bytes-of (p .capture) ++ (bytes-ofZ (p .min) ++ (bytes-ofZ (p .max) ++ replicate 12 0)))))))
 
+-- the record of a pair reads as that pair, wherever it stands
+abbrev pub Reads-back : Pair → Type 0
+Reads-back p = (k : ℕ) → reading k (pair-bytes p) ≡ delay p
+
 -- the register record of a number and a name, if the name is lawful
 abbrev pub written : ℕ → List ℕ → Result (List ℕ) Refusal
 written number name = cond (lawful-name name) (Ok (register-bytes number name)) (Err MalformedRecord)

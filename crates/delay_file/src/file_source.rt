@@ -14,7 +14,7 @@ pub impl DelaySource for FileView<'_> as FileSource {
 
     fn entry_count(&self) -> usize {
         self.record_count()
-            .saturating_sub(self.registers() as usize)
+            .saturating_sub(self.register_count() as usize)
     }
 
     fn entry(&self, place: usize) -> Result<Pair, Refusal> {

@@ -8,3 +8,5 @@ pub mod layout;
 pub mod names;
 pub mod reading;
 pub mod view;
+pub mod whole_file;
+pub mod write_error;
