@@ -2,7 +2,9 @@
 // refusals, and what a source of delays means. Everything else in the repository is said through the definitions in
 // specs/ of this crate.
 pub mod domain;
+pub mod limit;
 pub mod limits;
 pub mod pair;
+pub mod readable;
 pub mod refusal;
 pub mod source;

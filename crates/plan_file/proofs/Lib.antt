@@ -1,0 +1,5 @@
+pub mod Excess
+pub mod First
+pub mod Legal
+pub mod Named
+pub mod Pins

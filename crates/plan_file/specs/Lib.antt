@@ -1,0 +1,4 @@
+pub mod Checks
+pub mod Drafts
+pub mod Found
+pub mod Laws

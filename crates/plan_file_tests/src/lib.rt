@@ -1,0 +1,3 @@
+// Examples of drafts, checked against small circuits.
+#[cfg(test)]
+mod drafts;
