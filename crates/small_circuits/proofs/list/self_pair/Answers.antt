@@ -1,0 +1,24 @@
+use native.Mathlib.Omega.{arith}
+use Prim.Native.Nat.{ℕ}
+use lib.IntN.{ℤ, pos, negsuc}
+use lib.Signed.{_≤ℤ_}
+use mathlib.Core.List.{[], _∷_}
+use mathlib.Core.Path.{refl}
+use Rattle.std.proofs.shelf.Signed.{ints}
+use Rattle.timing.specs.Plans.{clock}
+use Rattle.small_circuits.specs.Yields.{domains-of, times-of}
+use Rattle.small_circuits.proofs.Small.{all-free, below-1, circuit, no-pins, path, plan-yields, self-setup, times-yield}
+use Rattle.small_circuits.proofs.list.self_pair.Needs as need
+
+pub returns : need.returns
+returns c = (
+  plan-yields (circuit 1 (path 0 0 (pos 0) (pos 5) ∷ ([]))) no-pins 1000000 5 0 (0 ∷ (0 ∷ (0 ∷ ([]))))
+      (record { period-within = (omega arith, omega arith); under-ceiling = omega arith; pins-kept = λ r _. all-free (domains-of (0 ∷ (0 ∷ (0 ∷ ([]))))) r; limits-met = ((omega (arith, ints), omega (arith, ints)), tt) })
+      (λ T s D l. self-setup T (clock s (D 0)) (l .limits-met .0))
+      (λ s D l. omega arith),
+  times-yield (circuit 1 (path 0 0 (pos 0) (pos 5) ∷ ([]))) 5 (pos 0 ∷ (pos 0 ∷ (pos 0 ∷ ([]))))
+      (record { period-within = (omega arith, omega arith); limits-met = ((omega (arith, ints), omega (arith, ints)), tt) })
+      (below-1 (λ r. times-of (pos 0 ∷ (pos 0 ∷ (pos 0 ∷ ([])))) r ≤ℤ pos 0) (omega (arith, ints)))
+      (λ T t l. self-setup T (t 0) (l .limits-met .0))
+      (λ o l n. below-1 (λ r. o r ≤ℤ times-of (pos 0 ∷ (pos 0 ∷ (pos 0 ∷ ([])))) r) (n 0 (omega arith))),
+)
