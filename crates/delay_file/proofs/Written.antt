@@ -29,10 +29,10 @@ use Rattle.delay_file.proofs.Shapes.{other-kind}
 use Rattle.delay_file.proofs.Spellings.{register-reads-back}
 
 -- every record has 32 bytes
-abbrev Whole : List ℕ → Type 0
+abbrev pub Whole : List ℕ → Type 0
 Whole x = length x ≡ 32
 
-length-joined : (xs : List (List ℕ)) → All Whole xs → length (joined xs) ≡ length xs * 32
+pub length-joined : (xs : List (List ℕ)) → All Whole xs → length (joined xs) ≡ length xs * 32
 length-joined [] h = refl
 length-joined (x ∷ xs) h = let e = length-joined xs (h .1) in let f = h .0 in length-append x (joined xs) ∙ omega arith
 
@@ -155,11 +155,11 @@ module _ (names : List (List ℕ)) (pairs : List Pair) (lawful : All (λ name. l
       rw (z, run, not-broken-at (ltb (length names) (record-count (file-bytes names pairs))) refl, le-leb 1 (length names) few, le-leb (length names) 4096 most)
       (ap (λ es. opened (record { registers = length names; entries = es })) entries)
 
-joined-append : (xs ys : List (List ℕ)) → joined (xs ++ ys) ≡ joined xs ++ joined ys
+pub joined-append : (xs ys : List (List ℕ)) → joined (xs ++ ys) ≡ joined xs ++ joined ys
 joined-append [] ys = refl
 joined-append (x ∷ xs) ys = ap (λ l. x ++ l) (joined-append xs ys) ∙ sym (append-assoc x (joined xs) (joined ys))
 
-joined-push : (xs : List (List ℕ)) (x : List ℕ) → joined (xs ++ x ∷ []) ≡ joined xs ++ x
+pub joined-push : (xs : List (List ℕ)) (x : List ℕ) → joined (xs ++ x ∷ []) ≡ joined xs ++ x
 joined-push xs x = joined-append xs (x ∷ []) ∙ ap (λ l. joined xs ++ l) (append-nil x)
 
 registers-push : (k : ℕ) (names : List (List ℕ)) (name : List ℕ) → register-records k (names ++ name ∷ []) ≡ register-records k names ++ register-bytes (k + length names) name ∷ []

@@ -1,6 +1,8 @@
 ghost use Rattle.plan_file.specs.Checks.{Kept-draft, checked-as};
 ghost use Rattle.plan_file.specs.Drafts.{check-answer};
 ghost use Rattle.plan_file.specs.Laws.{Names-first, Ready, domains-of};
+ghost use Rattle.plan_file.specs.PlanRecords.{plan-length};
+ghost use Rattle.plan_file.specs.Written.{Bits-are-registers, Ones-are-late, Wrote};
 ghost use Rattle.std.specs.Orderings.{Decides};
 ghost use Rattle.std.specs.Results.{isOk};
 ghost use Rattle.timing.specs.Outcomes.{told};
@@ -8,6 +10,8 @@ ghost use Rattle.timing.specs.Plans.{Legal};
 ghost use mathlib.Core.Path.{_≡_};
 use crate::draft::Draft;
 use crate::first_broken::first_broken;
+use crate::plan_records::plan_length;
+use crate::plan_records::write_plan;
 use timing::limits::MAX_OFFSET;
 use timing::limits::MAX_PERIOD;
 use timing::readable::check_readable;
@@ -21,6 +25,25 @@ pub struct CheckedPlan<'d> {
     offset: u32,
     registers: u32,
     domains: &'d [u8],
+}
+
+impl CheckedPlan<'_> {
+    // How many bytes the plan takes in a file.
+    pub fn file_length(&self) -> usize
+        ensures { λ r. ⌜ r ≡ plan-length (now (self .entry) .registers) ⌝ }
+    {
+        plan_length(self.registers)
+    }
+
+    // Writes the plan as a file: a head, and a record for each 64 registers. What lies behind it stays as it was. Memory
+    // that is too short is refused with 9, and stays whole.
+    pub fn write(&self, out: &mut [u8]) -> Result<usize, Refusal>
+        ensures wrote { λ r. ⌜ Wrote (now (self .entry) .period) (now (self .entry) .offset) (now (self .entry) .registers) (now (now (self .entry) .domains)) (now (out .entry)) (now (out .exit)) r ⌝ }
+        ensures bits { λ _. ⌜ Bits-are-registers (now (self .entry) .registers) (now (now (self .entry) .domains)) ⌝ }
+        ensures ones { λ _. ⌜ Ones-are-late (now (self .entry) .registers) (now (now (self .entry) .domains)) ⌝ }
+    {
+        write_plan(self.period, self.offset, self.registers, self.domains, out)
+    }
 }
 
 // A draft that was refused, handed back to its owner as it was.
