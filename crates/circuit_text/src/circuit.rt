@@ -1,3 +1,8 @@
+ghost use Prim.Native.Nat.{_<_};
+ghost use Rattle.delay_file.specs.Records.{lawful-name};
+ghost use Rattle.std.specs.Vec.{made};
+ghost use mathlib.Core.Bool.{true};
+ghost use mathlib.Core.Path.{_≡_};
 use crate::line::Line;
 use crate::line::PairLine;
 use crate::line::read_line;
@@ -93,7 +98,9 @@ impl<'t> Circuit<'t> {
     }
 }
 // The number of a new register, if it may have its name.
-fn next_number<'t>(numbers: &BTreeMap<&'t str, u32>, name: &'t str) -> Result<u32, Problem<'t>> {
+fn next_number<'t>(numbers: &BTreeMap<&'t str, u32>, name: &'t str) -> Result<u32, Problem<'t>>
+    ensures { λ r. ⌜ made r (λ n. (n < 4096) × (lawful-name (now (name .entry)) ≡ true)) ⌝ }
+{
     if !is_lawful_name(name.as_bytes()) {
         return Err(Problem::Name(name));
     }
@@ -107,7 +114,9 @@ fn next_number<'t>(numbers: &BTreeMap<&'t str, u32>, name: &'t str) -> Result<u3
 }
 
 // A pair by the numbers of its registers.
-fn resolved<'t>(numbers: &BTreeMap<&'t str, u32>, line: PairLine<'t>) -> Result<Pair, Problem<'t>> {
+fn resolved<'t>(numbers: &BTreeMap<&'t str, u32>, line: PairLine<'t>) -> Result<Pair, Problem<'t>>
+    ensures { λ r. ⌜ made r (λ p. (p .min ≡ line .entry .min) × (p .max ≡ line .entry .max)) ⌝ }
+{
     let Some(launch) = numbers.get(line.launch) else {
         return Err(Problem::NoSuchName(line.launch));
     };

@@ -26,7 +26,7 @@ A refusal is printed as `refused NUMBER: words` and ends with status 1.
 ";
 
 // The command that these words are, if they are one.
-pub fn read_command<'w>(words: &'w [String]) -> Option<Command<'w>> {
+pub(crate) fn read_command<'w>(words: &'w [String]) -> Option<Command<'w>> {
     match words {
         [name, text, file] if name.as_str() == "pack" => Some(Command::Pack {
             text: text.as_str(),

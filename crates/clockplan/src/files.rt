@@ -3,21 +3,21 @@ use std::error::AnyError;
 use std::fs;
 use std::io;
 
-pub fn read_bytes(rt: &LibcRuntime, path: &str) -> Result<Vec<u8>, AnyError> {
+pub(crate) fn read_bytes(rt: &LibcRuntime, path: &str) -> Result<Vec<u8>, AnyError> {
     match fs::read(rt, path) {
         Ok(bytes) => Ok(bytes),
         Err(error) => Err(about(rt, path, error)?),
     }
 }
 
-pub fn read_text(rt: &LibcRuntime, path: &str) -> Result<String, AnyError> {
+pub(crate) fn read_text(rt: &LibcRuntime, path: &str) -> Result<String, AnyError> {
     match fs::read_to_string(rt, path) {
         Ok(text) => Ok(text),
         Err(error) => Err(about(rt, path, error)?),
     }
 }
 
-pub fn write_bytes(rt: &LibcRuntime, path: &str, bytes: &[u8]) -> Result<(), AnyError> {
+pub(crate) fn write_bytes(rt: &LibcRuntime, path: &str, bytes: &[u8]) -> Result<(), AnyError> {
     match fs::write(rt, path, bytes) {
         Ok(()) => Ok(()),
         Err(error) => Err(about(rt, path, error)?),

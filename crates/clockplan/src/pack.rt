@@ -18,7 +18,11 @@ use timing::source::DelaySource;
 
 // Makes a delay file of a text, saying what was done. Where the text has a mistake, or the file would not open,
 // nothing is written. Entries that are written as the text has them and will be refused are listed.
-pub fn pack(rt: &LibcRuntime, text_path: &str, file_path: &str) -> Result<Outcome, AnyError> {
+pub(crate) fn pack(
+    rt: &LibcRuntime,
+    text_path: &str,
+    file_path: &str,
+) -> Result<Outcome, AnyError> {
     let heap = rt.alloc();
     let text = read_text(rt, text_path)?;
     let circuit = read_circuit(heap, text.as_str())?;

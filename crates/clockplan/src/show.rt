@@ -1,3 +1,8 @@
+ghost use Rattle.clockplan.specs.Counts.{faulty-count, is-faulty};
+ghost use Rattle.delay_file.specs.Files.{view-meaning};
+ghost use Rattle.std.specs.Vec.{made};
+ghost use Rattle.timing.specs.Meaning.{entry-at};
+ghost use mathlib.Core.Path.{_≡_};
 use crate::commands::Outcome;
 use crate::files::read_bytes;
 use crate::shown::ShownFault;
@@ -17,7 +22,7 @@ use std::fmt::Write;
 use timing::source::DelaySource;
 
 // Prints the records of a delay file, a line each. No fault ends the list.
-pub fn show(rt: &LibcRuntime, path: &str) -> Result<Outcome, AnyError> {
+pub(crate) fn show(rt: &LibcRuntime, path: &str) -> Result<Outcome, AnyError> {
     let bytes = read_bytes(rt, path)?;
     let mut out = String::new(rt.alloc());
     let faults = match FileView::open(bytes.as_slice()) {
@@ -33,7 +38,9 @@ pub fn show(rt: &LibcRuntime, path: &str) -> Result<Outcome, AnyError> {
 }
 
 // The records of a file that opens. Answers how many of its entries are faulty.
-fn show_opened(view: &FileView<'_>, out: &mut String) -> Result<usize, AnyError> {
+fn show_opened(view: &FileView<'_>, out: &mut String) -> Result<usize, AnyError>
+    ensures { λ r. ⌜ made r (λ n. n ≡ faulty-count (view-meaning (now (view .entry)) .entries)) ⌝ }
+{
     let registers = view.registers();
     for number in 0..registers {
         let register = ShownRegister {
@@ -52,26 +59,38 @@ fn show_opened(view: &FileView<'_>, out: &mut String) -> Result<usize, AnyError>
 }
 
 // The entries of a file. Answers how many are faulty.
-fn show_entries(view: &FileView<'_>, out: &mut String) -> Result<usize, AnyError> {
+fn show_entries(view: &FileView<'_>, out: &mut String) -> Result<usize, AnyError>
+    ensures { λ r. ⌜ made r (λ n. n ≡ faulty-count (view-meaning (now (view .entry)) .entries)) ⌝ }
+{
     let mut faults: usize = 0;
     for place in 0..view.entry_count() {
-        let record = (view.registers() as usize).saturating_add(place);
-        match view.pair(place) {
-            Ok(pair) => {
-                let pair = ShownPair::named(view, pair);
-                writeln!(out, "record {record}: {pair}")?;
-            }
-            Err(fault) => {
-                faults = faults.saturating_add(1);
-                show_faulty(view, record, fault, out)?;
-            }
+        if show_entry(view, place, out)? {
+            faults += 1;
         }
     }
     Ok(faults)
 }
 
+// One entry: its pair, or what is wrong with it. Answers whether it is faulty.
+fn show_entry(view: &FileView<'_>, place: usize, out: &mut String) -> Result<bool, AnyError>
+    ensures { λ r. ⌜ made r (λ b. b ≡ is-faulty (entry-at (view-meaning (now (view .entry))) place)) ⌝ }
+{
+    let record = (view.registers() as usize).saturating_add(place);
+    match view.pair(place) {
+        Ok(pair) => {
+            let pair = ShownPair::named(view, pair);
+            writeln!(out, "record {record}: {pair}")?;
+            Ok(false)
+        }
+        Err(fault) => {
+            show_faulty(view, record, fault, out)?;
+            Ok(true)
+        }
+    }
+}
+
 // A faulty entry: what is wrong with it, and what the record says where it can be read.
-pub fn show_faulty(
+pub(crate) fn show_faulty(
     view: &FileView<'_>,
     record: usize,
     fault: Fault,

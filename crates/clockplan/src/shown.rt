@@ -51,7 +51,7 @@ pub struct ShownPair<'a> {
 
 impl<'a> ShownPair<'a> {
     // A pair with the names that a file has for its registers.
-    pub fn named(view: &FileView<'a>, pair: Pair) -> ShownPair<'a> {
+    pub(crate) fn named(view: &FileView<'a>, pair: Pair) -> ShownPair<'a> {
         ShownPair {
             launch: ShownRegister {
                 number: pair.launch,
@@ -67,7 +67,7 @@ impl<'a> ShownPair<'a> {
     }
 
     // A pair by the numbers of its registers.
-    pub fn numbered(pair: Pair) -> ShownPair<'a> {
+    pub(crate) fn numbered(pair: Pair) -> ShownPair<'a> {
         ShownPair {
             launch: ShownRegister {
                 number: pair.launch,

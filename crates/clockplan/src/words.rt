@@ -2,7 +2,7 @@ use timing::refusal::Part;
 use timing::refusal::Refusal;
 
 // What a refusal says to people.
-pub fn words(refusal: Refusal) -> &'static str {
+pub(crate) fn words(refusal: Refusal) -> &'static str {
     match refusal {
         Refusal::RegisterCount => "register count outside 1 to 4,096, or not the session's",
         Refusal::NoSuchRegister => "no such register",

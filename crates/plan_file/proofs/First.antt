@@ -21,7 +21,8 @@ use Rattle.timing.specs.declared.pair.Pair.{Pair}
 use Rattle.timing.specs.declared.refusal.Part.{Part}
 use Rattle.timing.specs.declared.refusal.Part.the-variants as part
 use Rattle.plan_file.specs.Drafts.{Verdict, kept, broken, by-excess, entries-from, pins-from, pin-met, verdict, time-of}
-use Rattle.plan_file.specs.Laws.{Is-pair, First-broken, domains-of}
+use Rattle.timing.specs.Plans.{domains-of}
+use Rattle.plan_file.specs.Laws.{Is-pair, First-broken}
 use Rattle.plan_file.proofs.Legal.{Kept-at, pin-kept-from, pin-kept-to, no-excess, setup-from, hold-from}
 
 -- two verdicts that name the same

@@ -26,8 +26,10 @@ use Rattle.timing.specs.declared.domain.Domain.the-variants.{Early, Late}
 use Rattle.timing.specs.declared.pair.Pair.{Pair}
 use Rattle.timing.specs.declared.refusal.Part.{Part}
 use Rattle.timing.specs.declared.refusal.Part.the-variants as part
-use Rattle.plan_file.specs.Drafts.{Verdict, kept, broken, by-excess, entries-from, pins-from, pin-met, verdict, domain-of, time-of, check-answer, told-verdict}
-use Rattle.plan_file.specs.Laws.{Is-pair, Ready, domains-of}
+use Rattle.timing.specs.Plans.{domain-of}
+use Rattle.plan_file.specs.Drafts.{Verdict, kept, broken, by-excess, entries-from, pins-from, pin-met, verdict, time-of, check-answer, told-verdict}
+use Rattle.timing.specs.Plans.{domains-of}
+use Rattle.plan_file.specs.Laws.{Is-pair, Ready}
 
 kept-parts : (p : Part) (k e : ℕ) (rest : Verdict) → by-excess p k e rest ≡ kept → (e ≡ 0) × (rest ≡ kept)
 kept-parts p k zero rest h = (refl, h)

@@ -10,7 +10,8 @@ use Rattle.std.proofs.shelf.Counted.{length-counting, getD-counting}
 use Rattle.std.proofs.shelf.Lists.{at-drop-more, at-drop-all, getD-default}
 use Rattle.timing.specs.declared.domain.Domain.{Domain}
 use Rattle.timing.specs.declared.refusal.Part.the-variants.{Pin}
-use Rattle.plan_file.specs.Drafts.{Verdict, broken, pin-met, pins-from, domain-of}
+use Rattle.timing.specs.Plans.{domain-of}
+use Rattle.plan_file.specs.Drafts.{Verdict, broken, pin-met, pins-from}
 
 module _ (pins ds : List ℕ) (n i : ℕ) (rest : Verdict) where
   at-register : i < n → pins-from pins ds (drop i (counting 0 n)) rest ≡ pins-from pins ds (i ∷ drop (i + 1) (counting 0 n)) rest

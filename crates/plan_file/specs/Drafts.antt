@@ -9,7 +9,7 @@ use Rattle.std.specs.Iters.{counting}
 use Rattle.timing.specs.Delays.{slack}
 use Rattle.timing.specs.Meaning.{Entry, pair, faulty, Meaning, entry-at}
 use Rattle.timing.specs.Outcomes.{Outcome, granted, refused, unless, unless-faulty, period-within, offset-within, few-entries, first-faulty}
-use Rattle.timing.specs.Plans.{clock}
+use Rattle.timing.specs.Plans.{clock, domains-of}
 use Rattle.timing.specs.Slacks.{limit-slack, limit-part, excess}
 use Rattle.timing.specs.Table.{part-number}
 use Rattle.timing.specs.declared.domain.Domain.{Domain}
@@ -19,13 +19,9 @@ use Rattle.timing.specs.declared.limit.Limit.the-variants.{Setup, Hold}
 use Rattle.timing.specs.declared.refusal.Part.{Part}
 use Rattle.timing.specs.declared.refusal.Part.the-variants.{Ceiling, Pin}
 
--- the domain that a byte of domain memory gives: 1 is late, any other early
-abbrev pub domain-of : ℕ → Domain
-domain-of b = cond (eqb b 1) Late Early
-
 -- the clock time of register r under an offset and domain memory
 abbrev pub time-of : ℕ → List ℕ → ℕ → ℤ
-time-of s ds r = clock s (domain-of (getD ds r 0))
+time-of s ds r = clock s (domains-of ds r)
 
 -- what check finds: everything is kept, or a part is broken first, at a register or an entry, by so much
 pub data Verdict : Type 0 where
@@ -57,7 +53,7 @@ pin-met byte Late = cond (eqb byte 0) false true
 -- the pins of these registers, then the rest
 abbrev pub pins-from : List ℕ → List ℕ → List ℕ → Verdict → Verdict
 pins-from pins ds [] rest = rest
-pins-from pins ds (r ∷ rs) rest = cond (pin-met (getD pins r 2) (domain-of (getD ds r 0))) (pins-from pins ds rs rest) (broken Pin r 0)
+pins-from pins ds (r ∷ rs) rest = cond (pin-met (getD pins r 2) (domains-of ds r)) (pins-from pins ds rs rest) (broken Pin r 0)
 
 -- the ceiling, then the pins by register, then the entries by place
 abbrev pub verdict : Meaning → List ℕ → ℕ → ℕ → ℕ → List ℕ → Verdict

@@ -8,8 +8,7 @@ use Rattle.std.specs.shelf.Lists.{All}
 use Rattle.timing.specs.Bounds.{Period, Offset}
 use Rattle.timing.specs.Delays.{Setup, setup-slack, hold-slack}
 use Rattle.timing.specs.Meaning.{Entry, pair, faulty, Meaning, entry-at}
-use Rattle.timing.specs.Plans.{Met, Pin-kept}
-use Rattle.timing.specs.declared.domain.Domain.{Domain}
+use Rattle.timing.specs.Plans.{Met, Pin-kept, domains-of}
 use Rattle.timing.specs.declared.pair.Pair.{Pair}
 use Rattle.timing.specs.declared.refusal.Part.{Part}
 use Rattle.timing.specs.declared.refusal.Part.the-variants as part
@@ -18,11 +17,7 @@ use Rattle.std.specs.declared.result.Result.{Result}
 use Rattle.std.specs.declared.result.Result.the-variants.{Ok, Err}
 use Rattle.plan_file.specs.declared.checked.CheckedPlan.{CheckedPlan}
 use Rattle.plan_file.specs.declared.checked.RefusedDraft.{RefusedDraft}
-use Rattle.plan_file.specs.Drafts.{domain-of, time-of}
-
--- the domains that domain memory gives
-abbrev pub domains-of : List ℕ → ℕ → Domain
-domains-of ds r = domain-of (getD ds r 0)
+use Rattle.plan_file.specs.Drafts.{time-of}
 
 -- an entry that can be read
 abbrev pub Is-pair : Entry → Type 0

@@ -1,6 +1,7 @@
 ghost use Rattle.plan_file.specs.Checks.{Kept-draft, checked-as};
 ghost use Rattle.plan_file.specs.Drafts.{check-answer};
-ghost use Rattle.plan_file.specs.Laws.{Names-first, Ready, domains-of};
+ghost use Rattle.timing.specs.Plans.{domains-of};
+ghost use Rattle.plan_file.specs.Laws.{Names-first, Ready};
 ghost use Rattle.plan_file.specs.PlanRecords.{plan-length};
 ghost use Rattle.plan_file.specs.Written.{Bits-are-registers, Ones-are-late, Wrote};
 ghost use Rattle.std.specs.Orderings.{Decides};

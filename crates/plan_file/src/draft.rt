@@ -1,4 +1,5 @@
-ghost use Rattle.plan_file.specs.Drafts.{domain-of, time-of};
+ghost use Rattle.timing.specs.Plans.{domain-of};
+ghost use Rattle.plan_file.specs.Drafts.{time-of};
 ghost use lib.ListN.{getD};
 ghost use mathlib.Core.Path.{_≡_};
 use timing::domain::Domain;

@@ -11,7 +11,8 @@ use Rattle.timing.specs.Delays.{Meets}
 use Rattle.timing.specs.Meaning.{Meaning, pair}
 use Rattle.timing.specs.Plans.{clock, Pin-kept, Legal, Least}
 use Rattle.timing.specs.Times.{Legal-times, None-above-0, Greatest, Least-free}
-use Rattle.small_circuits.specs.Yields.{domains-of, times-of}
+use Rattle.timing.specs.Plans.{domains-of}
+use Rattle.small_circuits.specs.Yields.{times-of}
 use Rattle.timing.specs.declared.domain.Domain.{Domain}
 use Rattle.timing.specs.declared.domain.Domain.the-variants.{Early, Late}
 use Rattle.timing.specs.declared.pair.Pair.{Pair}

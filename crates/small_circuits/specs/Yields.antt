@@ -1,15 +1,11 @@
 -- What the definitions yield for a small circuit.
-use mathlib.Core.Bool.{cond}
 use mathlib.Core.List.{List, map}
 use Prim.Native.Nat.{ℕ}
-use lib.Dec.{eqb}
 use lib.IntN.{ℤ, pos}
 use lib.ListN.{getD, take}
 use Rattle.timing.specs.Meaning.{Entry, pair, Meaning}
-use Rattle.timing.specs.Plans.{Legal, Least, No-plan}
+use Rattle.timing.specs.Plans.{Legal, Least, No-plan, domains-of}
 use Rattle.timing.specs.Times.{Greatest, Least-free, No-times}
-use Rattle.timing.specs.declared.domain.Domain.{Domain}
-use Rattle.timing.specs.declared.domain.Domain.the-variants.{Early, Late}
 use Rattle.small_circuits.specs.declared.circuit.SmallCircuit.{SmallCircuit}
 use Rattle.small_circuits.specs.declared.circuit.LeastPlan.{LeastPlan}
 use Rattle.small_circuits.specs.declared.circuit.LeastPlan.the-variants.{Plan, NoPlan}
@@ -19,10 +15,6 @@ use Rattle.small_circuits.specs.declared.circuit.LeastTimes.the-variants.{Time
 -- the circuit as a source: its registers, and its pairs as entries
 abbrev pub meaning-of : SmallCircuit → Meaning
 meaning-of c = record { registers = c .registers; entries = map pair (take (c .count) (c .pairs)) }
-
--- the domains that domain bytes give: 1 is late, any other early
-abbrev pub domains-of : List ℕ → ℕ → Domain
-domains-of ds r = cond (eqb (getD ds r 0) 1) Late Early
 
 -- clock times by register
 abbrev pub times-of : List ℤ → ℕ → ℤ

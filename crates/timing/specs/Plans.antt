@@ -1,7 +1,9 @@
 -- Plans of two clock domains: which are legal, and which is the least.
 use mathlib.Core.Path.{_≡_}
+use mathlib.Core.Bool.{cond}
 use mathlib.Core.List.{List}
 use Prim.Native.Nat.{ℕ, _≤_, _<_}
+use lib.Dec.{eqb}
 use lib.IntN.{ℤ, pos}
 use lib.ListN.{getD}
 use Rattle.std.specs.shelf.Lists.{All}
@@ -15,6 +17,13 @@ use Rattle.timing.specs.Meaning.{Entry, pair, faulty, Meaning}
 abbrev pub clock : ℕ → Domain → ℤ
 clock s Early = pos 0
 clock s Late = pos s
+
+-- The domain that a byte of domain memory gives: 1 is late, any other early; a register past the memory is early.
+abbrev pub domain-of : ℕ → Domain
+domain-of b = cond (eqb b 1) Late Early
+
+abbrev pub domains-of : List ℕ → ℕ → Domain
+domains-of ds r = domain-of (getD ds r 0)
 
 -- an entry whose pair meets both limits at a period and clock times; an entry that cannot be read meets nothing
 abbrev pub Met : ℕ → (ℕ → ℤ) → Entry → Type 0

@@ -2,7 +2,7 @@ use mathlib.Core.Path.{ap, _∙_}
 use lib.ListN.{getD}
 use borrow.Author.Needs.{needs}
 use Rattle.timing.specs.Slacks.{excess}
-use Rattle.plan_file.specs.Drafts.{domain-of}
+use Rattle.timing.specs.Plans.{domain-of}
 use Rattle.plan_file.proofs.Excess.{slack-within, slack-plain}
 use Rattle.plan_file.proofs.first_broken.limit_excess.Needs as need
 

@@ -5,7 +5,8 @@ use lib.Signed.{_≤ℤ_}
 use mathlib.Core.List.{[], _∷_}
 use mathlib.Core.Path.{refl}
 use Rattle.std.proofs.shelf.Signed.{ints}
-use Rattle.small_circuits.specs.Yields.{domains-of, times-of}
+use Rattle.timing.specs.Plans.{domains-of}
+use Rattle.small_circuits.specs.Yields.{times-of}
 use Rattle.small_circuits.proofs.Small.{below-2, circuit, path, slow-capture, slow-times, times-yield}
 use Rattle.small_circuits.proofs.list.negative_hold_low_ceiling.Needs as need
 

@@ -8,7 +8,8 @@ use Rattle.std.proofs.shelf.Signed.{ints}
 use Rattle.timing.specs.Plans.{Pin-kept}
 use Rattle.timing.specs.declared.domain.Domain.the-variants.{Early}
 use lib.ListN.{getD}
-use Rattle.small_circuits.specs.Yields.{domains-of, times-of}
+use Rattle.timing.specs.Plans.{domains-of}
+use Rattle.small_circuits.specs.Yields.{times-of}
 use Rattle.small_circuits.proofs.Small.{back-and-forth, back-and-forth-times, below-2, circuit, free, path, plan-yields, times-yield}
 use Rattle.small_circuits.proofs.list.pinned_early.Needs as need
 

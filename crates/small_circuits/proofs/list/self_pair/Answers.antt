@@ -6,7 +6,8 @@ use mathlib.Core.List.{[], _∷_}
 use mathlib.Core.Path.{refl}
 use Rattle.std.proofs.shelf.Signed.{ints}
 use Rattle.timing.specs.Plans.{clock}
-use Rattle.small_circuits.specs.Yields.{domains-of, times-of}
+use Rattle.timing.specs.Plans.{domains-of}
+use Rattle.small_circuits.specs.Yields.{times-of}
 use Rattle.small_circuits.proofs.Small.{all-free, below-1, circuit, no-pins, path, plan-yields, self-setup, times-yield}
 use Rattle.small_circuits.proofs.list.self_pair.Needs as need
 

@@ -5,7 +5,8 @@ use lib.Signed.{_≤ℤ_}
 use mathlib.Core.List.{[], _∷_}
 use mathlib.Core.Path.{refl}
 use Rattle.std.proofs.shelf.Signed.{ints}
-use Rattle.small_circuits.specs.Yields.{domains-of, times-of}
+use Rattle.timing.specs.Plans.{domains-of}
+use Rattle.small_circuits.specs.Yields.{times-of}
 use Rattle.small_circuits.proofs.Small.{all-free, back-and-forth, back-and-forth-times, below-2, circuit, no-pins, path, plan-yields, times-yield}
 use Rattle.small_circuits.proofs.list.there_and_back.Needs as need
 
