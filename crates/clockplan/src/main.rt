@@ -1,4 +1,6 @@
 // The command-line program. It reads and writes files and prints; what it says is worked out by the libraries.
+#![tactic(auto)]
+
 mod check;
 mod commands;
 mod files;

@@ -1,5 +1,7 @@
 // Delay files: records of 32 bytes, register records first and then pairs. Records are read and written one at a time,
 // and a whole file is opened as a source of delays.
+#![tactic(auto)]
+
 pub mod encoding;
 pub mod fault;
 pub mod fields;

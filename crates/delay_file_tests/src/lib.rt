@@ -1,4 +1,6 @@
 // Examples of delay files and of the vocabulary below them, good and damaged.
+#![tactic(auto)]
+
 #[cfg(test)]
 mod damaged;
 #[cfg(test)]

@@ -60,11 +60,11 @@ pub fn check<'d, S: DelaySource>(
     ceiling: u32,
     draft: Draft<'d>,
 ) -> Result<CheckedPlan<'d>, RefusedDraft<'d>>
-    ensures answer { checked_as result ≡ check_answer (meaning source.now) pins.now ceiling draft.entry.period draft.entry.offset draft.entry.domains.now }
-    ensures legal { Ready (meaning source.now) pins.now ceiling draft.entry.period draft.entry.offset draft.entry.domains.now → Decides (is_ok result) (Legal (meaning source.now) pins.now ceiling draft.entry.period draft.entry.offset (domains_of draft.entry.domains.now)) }
-    ensures first { Ready (meaning source.now) pins.now ceiling draft.entry.period draft.entry.offset draft.entry.domains.now → NamesFirst (meaning source.now) pins.now ceiling draft.entry.period draft.entry.offset draft.entry.domains.now result }
+    ensures answer { checked_as result ≡ check_answer (S.meaning source.now) pins.now ceiling draft.entry.period draft.entry.offset draft.entry.domains.now }
+    ensures legal { Ready (S.meaning source.now) pins.now ceiling draft.entry.period draft.entry.offset draft.entry.domains.now → Decides (is_ok result) (Legal (S.meaning source.now) pins.now ceiling draft.entry.period draft.entry.offset (domains_of draft.entry.domains.now)) }
+    ensures first { Ready (S.meaning source.now) pins.now ceiling draft.entry.period draft.entry.offset draft.entry.domains.now → NamesFirst (S.meaning source.now) pins.now ceiling draft.entry.period draft.entry.offset draft.entry.domains.now result }
     ensures writable { IfOk result (λ plan. Writable plan.period plan.offset plan.registers plan.domains.now) }
-    ensures same { KeptDraft (meaning source.now).registers draft.entry.period draft.entry.offset draft.entry.domains.now result }
+    ensures same { KeptDraft (S.meaning source.now).registers draft.entry.period draft.entry.offset draft.entry.domains.now result }
 {
     match judge(source, pins, ceiling, &draft) {
         Ok(()) => {
@@ -91,7 +91,7 @@ fn judge<S: DelaySource>(
     ceiling: u32,
     draft: &Draft<'_>,
 ) -> Result<(), Refusal>
-    ensures { told result ≡ check_answer (meaning source.now) pins.now ceiling draft.now.period draft.now.offset draft.now.domains.now }
+    ensures { told result ≡ check_answer (S.meaning source.now) pins.now ceiling draft.now.period draft.now.offset draft.now.domains.now }
 {
     if draft.period < 1 || draft.period > MAX_PERIOD {
         return Err(Refusal::PeriodOutOfLimits);

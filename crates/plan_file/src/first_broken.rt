@@ -44,7 +44,7 @@ fn excess_of(slack: i128) -> u32
 // The first broken limit of an entry, by place, setup before hold.
 fn broken_limit<S: DelaySource>(source: &S, draft: &Draft<'_>) -> Option<Broken>
     requires { draft.now.offset ≤ 1000000 }
-    ensures { found_as result ≡ entries_from draft.now.period (time_of draft.now.offset draft.now.domains.now) 0 (meaning source.now).entries }
+    ensures { found_as result ≡ entries_from draft.now.period (time_of draft.now.offset draft.now.domains.now) 0 (S.meaning source.now).entries }
 {
     let mut found = None;
     'entries: for place in 0..source.entry_count() {
@@ -97,9 +97,9 @@ pub(crate) fn first_broken<S: DelaySource>(
     ceiling: u32,
     draft: &Draft<'_>,
 ) -> Option<Broken>
-    requires pins { (meaning source.now).registers ≤ length pins.now }
+    requires pins { (S.meaning source.now).registers ≤ length pins.now }
     requires offset { draft.now.offset ≤ 1000000 }
-    ensures { found_as result ≡ verdict (meaning source.now) pins.now ceiling draft.now.period draft.now.offset draft.now.domains.now }
+    ensures { found_as result ≡ verdict (S.meaning source.now) pins.now ceiling draft.now.period draft.now.offset draft.now.domains.now }
 {
     if draft.offset > ceiling {
         return Some(Broken {

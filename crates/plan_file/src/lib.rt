@@ -1,4 +1,6 @@
 // Drafts of plans, the check that makes a draft a plan, and plan files, written and read.
+#![tactic(auto)]
+
 pub mod checked;
 mod domain_word;
 pub mod draft;

@@ -14,7 +14,7 @@ pub fn slack_at<S: DelaySource>(
     draft: &Draft<'_>,
     place: usize,
 ) -> Result<i128, Refusal>
-    ensures { told result ≡ slack_answer (meaning source.now) draft.now.period draft.now.offset draft.now.domains.now place }
+    ensures { told result ≡ slack_answer (S.meaning source.now) draft.now.period draft.now.offset draft.now.domains.now place }
 {
     if draft.period < 1 || draft.period > MAX_PERIOD {
         return Err(Refusal::PeriodOutOfLimits);

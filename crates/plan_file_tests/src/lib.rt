@@ -1,4 +1,6 @@
 // Examples of drafts, checked against small circuits, of plan files, written and read, and of reports.
+#![tactic(auto)]
+
 #[cfg(test)]
 mod drafts;
 #[cfg(test)]

@@ -1,5 +1,7 @@
 // Sessions: path delays, pins and the ceiling of a circuit, edited between any two plans. What every edit must answer, and
 // what is then in force, is said by the session book in specs/.
+#![tactic(auto)]
+
 ghost use Rattle.std.specs.Prelude.{ℕ, ◌<◌, ◌≤◌, vec_len};
 ghost use Rattle.session.specs.Pairs.{AllLawful, Apart};
 ghost use Rattle.timing.specs.Bounds.{RegisterCount};

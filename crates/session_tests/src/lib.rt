@@ -1,4 +1,6 @@
 // Examples of sessions: edits, files loaded and saved, and runs of calls.
+#![tactic(auto)]
+
 #[cfg(test)]
 mod edits;
 #[cfg(test)]

@@ -7,7 +7,7 @@ use crate::source::DelaySource;
 
 // The place of the first faulty entry of a source.
 pub fn first_faulty<S: DelaySource>(source: &S) -> Option<usize>
-    ensures { result ≡ first_faulty 0 (meaning source.now).entries }
+    ensures { result ≡ first_faulty 0 (S.meaning source.now).entries }
 {
     for place in 0..source.entry_count() {
         if source.entry(place).is_err() {
@@ -19,7 +19,7 @@ pub fn first_faulty<S: DelaySource>(source: &S) -> Option<usize>
 
 // Whether a source can be worked on: refused with 6 where it has too many entries, then with 15 at its first faulty one.
 pub fn check_readable<S: DelaySource>(source: &S) -> Result<(), Refusal>
-    ensures { told result ≡ unless (few_entries (meaning source.now)) 6 (unless_faulty (first_faulty 0 (meaning source.now).entries) (granted tt)) }
+    ensures { told result ≡ unless (few_entries (S.meaning source.now)) 6 (unless_faulty (first_faulty 0 (S.meaning source.now).entries) (granted tt)) }
 {
     if source.entry_count() > MAX_ENTRIES {
         return Err(Refusal::TooManyEntries);
