@@ -12,8 +12,8 @@ loop-place-preserved c =
     let es = (view_meaning c.args.view.now).entries in
     let i = c.loop-place.place in
     elim c.if-branch.branch [
-      | then-branch w ↦ (w.faults-is ∙ one_more is_faulty es (faulty 5) i c.loop-place.faults c.in-ok-show-entry.field-0 (omega arith) c.loop-place.invariant.0 c.in-ok-show-entry.ensures w.if-branch.true, omega (arith, w.faults-is))
-      | else-branch w ↦ (w.faults-is ∙ none_more is_faulty es (faulty 5) i c.loop-place.faults c.in-ok-show-entry.field-0 (omega arith) c.loop-place.invariant.0 c.in-ok-show-entry.ensures w.if-branch.false, omega (arith, w.faults-is))
+      | then-branch w ↦ (w.faults-is ∙ one_more is_faulty es (faulty 5) i c.loop-place.faults c.in_ok-show_entry.field-0 (omega arith) c.loop-place.invariant.0 c.in_ok-show_entry.ensures w.if-branch.true, omega (arith, w.faults-is))
+      | else-branch w ↦ (w.faults-is ∙ none_more is_faulty es (faulty 5) i c.loop-place.faults c.in_ok-show_entry.field-0 (omega arith) c.loop-place.invariant.0 c.in_ok-show_entry.ensures w.if-branch.false, omega (arith, w.faults-is))
     ]
 
 pub returns : goal.returns

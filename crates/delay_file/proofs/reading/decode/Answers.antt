@@ -13,7 +13,7 @@ returns-then-reserved1-ne0 c =
     let e = ap fault_seen c.at-then-reserved1-ne0.ensures in
     let k = c.args.«record» in
     let xs = c.args.bytes.now in
-    let n = c.if-bytes-ne-RECORD-BYTES.false in
+    let n = c.if-bytes-ne-RECORD_BYTES.false in
     let q : fault_seen c.at-then-reserved1-ne0.result ≡ reading k xs = elim c.then-reserved1-ne0.branch [
       | then-reserved1-ne0-via-then-reserved1-ne0 w ↦ e ∙ sym (reading_other k xs n (grind (arith, nat_tests)) (grind (arith, nat_tests)))
       | then-reserved1-ne0-via-else-reserved1-ne0+then-reserved2-ne0 w ↦ e ∙ sym (reading_other k xs n (grind (arith, nat_tests)) (grind (arith, nat_tests)))
@@ -21,27 +21,27 @@ returns-then-reserved1-ne0 c =
     ] in
     record { value = q; spelled = spelled_as k xs _ c.type-inv.bytes q }
 
-pub returns-in-err-pair-in : goal.returns-in-err-pair-in
-returns-in-err-pair-in c =
+pub returns-in_err-pair_in : goal.returns-in_err-pair_in
+returns-in_err-pair_in c =
     let k = c.args.«record» in
     let xs = c.args.bytes.now in
-    let p = err_from_is_err_and c.from-residual.result c.from-residual.ensures.1 in
-    let e = simp take_rest at (ap seen_pair (sym c.in-err-pair-in.was) ∙ c.pair-in.ensures) in
-    let q = e ∙ sym (reading_2 k xs c.if-bytes-ne-RECORD-BYTES.false (omega arith) (omega arith) (omega arith) (omega arith)) in
+    let p = err_from_is_err_and c.from_residual.result c.from_residual.ensures.1 in
+    let e = simp take_rest at (ap seen_pair (sym c.in_err-pair_in.was) ∙ c.pair_in.ensures) in
+    let q = e ∙ sym (reading_2 k xs c.if-bytes-ne-RECORD_BYTES.false (omega arith) (omega arith) (omega arith) (omega arith)) in
     rw (p.1, p.2) (record { value = q; spelled = spelled_as k xs _ c.type-inv.bytes q })
 
 pub returns-in-1 : goal.returns-in-1
 returns-in-1 c =
     let k = c.args.«record» in
     let xs = c.args.bytes.now in
-    let e = simp take_rest at c.register-in.ensures in
-    let q = e ∙ sym (reading_1 k xs c.if-bytes-ne-RECORD-BYTES.false (omega arith) (omega arith) (omega arith) (omega arith)) in
+    let e = simp take_rest at c.register_in.ensures in
+    let q = e ∙ sym (reading_1 k xs c.if-bytes-ne-RECORD_BYTES.false (omega arith) (omega arith) (omega arith) (omega arith)) in
     record { value = q; spelled = spelled_as k xs _ c.type-inv.bytes q }
 
-pub returns-in-ok-pair-in : goal.returns-in-ok-pair-in
-returns-in-ok-pair-in c =
+pub returns-in_ok-pair_in : goal.returns-in_ok-pair_in
+returns-in_ok-pair_in c =
     let k = c.args.«record» in
     let xs = c.args.bytes.now in
-    let e = simp take_rest at (ap seen_pair (sym c.in-ok-pair-in.was) ∙ c.pair-in.ensures) in
-    let q = e ∙ sym (reading_2 k xs c.if-bytes-ne-RECORD-BYTES.false (omega arith) (omega arith) (omega arith) (omega arith)) in
+    let e = simp take_rest at (ap seen_pair (sym c.in_ok-pair_in.was) ∙ c.pair_in.ensures) in
+    let q = e ∙ sym (reading_2 k xs c.if-bytes-ne-RECORD_BYTES.false (omega arith) (omega arith) (omega arith) (omega arith)) in
     record { value = q; spelled = spelled_as k xs _ c.type-inv.bytes q }

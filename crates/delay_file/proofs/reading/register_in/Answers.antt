@@ -6,26 +6,26 @@ use Rattle.delay_file.specs.Bytes.{every, is_zero, not_zero}
 use Rattle.delay_file.specs.Records.{fault_seen, lawful_name, name_in}
 use Rattle.delay_file.proofs.Scans.{cut_rest}
 use Rattle.delay_file.proofs.reading.register_in.Goals as goal
-use Rattle.delay_file.proofs.reading.register_in.Goals.{then-not-is-lawful-name-via-then-not-is-lawful-name, then-not-is-lawful-name-via-else-not-is-lawful-name+then-not-all-zero}
+use Rattle.delay_file.proofs.reading.register_in.Goals.{then-not-is_lawful_name-via-then-not-is_lawful_name, then-not-is_lawful_name-via-else-not-is_lawful_name+then-not-all_zero}
 
-pub returns-then-not-is-lawful-name : goal.returns-then-not-is-lawful-name
-returns-then-not-is-lawful-name c =
+pub returns-then-not-is_lawful_name : goal.returns-then-not-is_lawful_name
+returns-then-not-is_lawful_name c =
     let t = take_rest c.args.rest.now 4 in
-    let n : prefix_len not_zero (drop 4 c.args.rest.now) ≡ c.first-zero-end.result = ap (prefix_len not_zero) (sym t) ∙ sym c.first-zero-end.ensures.0 in
-    elim c.then-not-is-lawful-name.branch [
-      | then-not-is-lawful-name-via-then-not-is-lawful-name w ↦
-          let g = simp (take_rest, sub-zero) at (sym c.is-lawful-name.ensures ∙ w.if-not-is-lawful-name.true) in
+    let n : prefix_len not_zero (drop 4 c.args.rest.now) ≡ c.first_zero-end.result = ap (prefix_len not_zero) (sym t) ∙ sym c.first_zero-end.ensures.0 in
+    elim c.then-not-is_lawful_name.branch [
+      | then-not-is_lawful_name-via-then-not-is_lawful_name w ↦
+          let g = simp (take_rest, sub-zero) at (sym c.is_lawful_name.ensures ∙ w.if-not-is_lawful_name.true) in
           rw (n, g) (ap fault_seen c.at.ensures)
-      | then-not-is-lawful-name-via-else-not-is-lawful-name+then-not-all-zero w ↦
-          let g = simp (take_rest, sub-zero) at (sym c.is-lawful-name.ensures ∙ w.if-not-is-lawful-name.false) in
-          let p = ap (every is_zero) (sym (cut_rest c.args.rest.now 4 c.first-zero-end.result)) ∙ sym w.all-zero.ensures ∙ w.if-not-all-zero.true in
+      | then-not-is_lawful_name-via-else-not-is_lawful_name+then-not-all_zero w ↦
+          let g = simp (take_rest, sub-zero) at (sym c.is_lawful_name.ensures ∙ w.if-not-is_lawful_name.false) in
+          let p = ap (every is_zero) (sym (cut_rest c.args.rest.now 4 c.first_zero-end.result)) ∙ sym w.all_zero.ensures ∙ w.if-not-all_zero.true in
           rw (n, g, p) (ap fault_seen c.at.ensures)
     ]
 
 pub returns : goal.returns
 returns c =
     let t = take_rest c.args.rest.now 4 in
-    let n : prefix_len not_zero (drop 4 c.args.rest.now) ≡ c.first-zero-end.result = ap (prefix_len not_zero) (sym t) ∙ sym c.first-zero-end.ensures.0 in
-    let g = simp (take_rest, sub-zero) at (sym c.is-lawful-name.ensures ∙ c.if-not-is-lawful-name.false) in
-    let p = ap (every is_zero) (sym (cut_rest c.args.rest.now 4 c.first-zero-end.result)) ∙ sym c.all-zero.ensures ∙ c.if-not-all-zero.false in
-    rw (n, g, p) (simp (take_rest, sub-zero, c.word-at.ensures))
+    let n : prefix_len not_zero (drop 4 c.args.rest.now) ≡ c.first_zero-end.result = ap (prefix_len not_zero) (sym t) ∙ sym c.first_zero-end.ensures.0 in
+    let g = simp (take_rest, sub-zero) at (sym c.is_lawful_name.ensures ∙ c.if-not-is_lawful_name.false) in
+    let p = ap (every is_zero) (sym (cut_rest c.args.rest.now 4 c.first_zero-end.result)) ∙ sym c.all_zero.ensures ∙ c.if-not-all_zero.false in
+    rw (n, g, p) (simp (take_rest, sub-zero, c.word_at.ensures))

@@ -9,15 +9,15 @@ use Rattle.delay_file.proofs.view.is_register.Goals as goal
 pub returns-then-part-ne-REGISTER : goal.returns-then-part-ne-REGISTER
 returns-then-part-ne-REGISTER c =
     let k = c.args.«record» in
-    let e : register_kind c.args.bytes.now k ≡ false = ap (λ xs. eqb (get_or xs 0 0) 1) (sym c.record-bytes-part.ensures.bytes) ∙ ne_eqb _ _ c.if-part-ne-REGISTER.true in
+    let e : register_kind c.args.bytes.now k ≡ false = ap (λ xs. eqb (get_or xs 0 0) 1) (sym c.record_bytes-part.ensures.bytes) ∙ ne_eqb _ _ c.if-part-ne-REGISTER.true in
     (other_kind k k (record_at c.args.bytes.now k) e, e)
 
-pub returns-in-err-number : goal.returns-in-err-number
-returns-in-err-number c =
-    let q = err_from_is_err_and c.from-residual.result c.from-residual.ensures.1 in
+pub returns-in_err-number : goal.returns-in_err-number
+returns-in_err-number c =
+    let q = err_from_is_err_and c.from_residual.result c.from_residual.ensures.1 in
     let k = c.args.«record» in
-    let b = c.record-bytes-part.ensures.bytes in
-    let n = ap length (sym b) ∙ c.record-bytes-part.ensures.length in
+    let b = c.record_bytes-part.ensures.bytes in
+    let n = ap length (sym b) ∙ c.record_bytes-part.ensures.length in
     let p = ap (λ xs. get_or xs 0 0) (sym b) ∙ c.if-part-ne-REGISTER.false in
-    let h = register_refused k (record_at c.args.bytes.now k) _ _ n p (c.in-err-number.ensures.value ∙ ap (reading k) b) in
+    let h = register_refused k (record_at c.args.bytes.now k) _ _ n p (c.in_err-number.ensures.value ∙ ap (reading k) b) in
     rw (q.1, q.2) (h.0, eq-eqb _ _ p, h.1)

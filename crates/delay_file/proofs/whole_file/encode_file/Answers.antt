@@ -15,20 +15,20 @@ returns-then-names-lt1 c =
       | then-names-lt1-via-then-names-lt1 w ↦ omega arith
       | then-names-lt1-via-else-names-lt1+then-names w ↦ omega arith
     ] in
-    record { answer = ap (λ f. unwritten (refusal_number f.refusal) f.«record») c.of-file.ensures ∙ sym (uncounted names c.args.pairs.now n); opens = tt }
+    record { answer = ap (λ f. unwritten (refusal_number f.refusal) f.«record») c.of_file.ensures ∙ sym (uncounted names c.args.pairs.now n); opens = tt }
 
-pub returns-in-err-push-registers : goal.returns-in-err-push-registers
-returns-in-err-push-registers c =
-    let q = err_from_is_err_and c.from-residual.result c.from-residual.ensures.1 in
+pub returns-in_err-push_registers : goal.returns-in_err-push_registers
+returns-in_err-push_registers c =
+    let q = err_from_is_err_and c.from_residual.result c.from_residual.ensures.1 in
     let l = length-map c.args.names.now (λ x. x.now) in
-    rw (q.1, q.2) (record { answer = refused_file (map (λ x. x.now) c.args.names.now) c.args.pairs.now _ (omega arith) (omega arith) c.in-err-push-registers.ensures; opens = tt })
+    rw (q.1, q.2) (record { answer = refused_file (map (λ x. x.now) c.args.names.now) c.args.pairs.now _ (omega arith) (omega arith) c.in_err-push_registers.ensures; opens = tt })
 
 pub returns : goal.returns
 returns c =
     let names = map (λ x. x.now) c.args.names.now in
     let pairs = c.args.pairs.now in
     let l = length-map c.args.names.now (λ x. x.now) in
-    let r = c.in-ok-push-registers.ensures in
-    let p = c.in-ok-push-pairs.ensures in
+    let r = c.in_ok-push_registers.ensures in
+    let p = c.in_ok-push_pairs.ensures in
     let w = whole_file names pairs _ _ _ c.new-file.ensures.items (r.0 ∙ omega arith) r.1 p.items p.read (omega arith) (omega arith) in
     record { answer = w.0; opens = w.1 }

@@ -9,13 +9,13 @@ use Rattle.delay_file.proofs.whole_file.push_pairs.Goals as goal
 
 pub loop-pair-preserved : goal.loop-pair-preserved
 loop-pair-preserved c =
-    let b = c.encode-pair.ensures.bytes in
+    let b = c.encode_pair.ensures.bytes in
     let ps = c.args.pairs.now in
     let i = c.loop-pair.pair-index in (
-      c.in-ok-extend-from-slice.ensures.items
+      c.in_ok-extend_from_slice.ensures.items
           ∙ ap (λ x. vec_items c.loop-pair.file ++ x) b
           ∙ pairs_more (vec_items c.args.file.now) (vec_items c.loop-pair.file) ps i _ (omega arith) c.loop-pair.invariant.0,
-      All-more ReadsBack ps i _ (omega arith) c.loop-pair.invariant.1 (λ k. ap (reading k) (sym b) ∙ c.encode-pair.ensures.reads_back k),
+      All-more ReadsBack ps i _ (omega arith) c.loop-pair.invariant.1 (λ k. ap (reading k) (sym b) ∙ c.encode_pair.ensures.reads_back k),
     )
 
 pub returns : goal.returns

@@ -5,12 +5,12 @@ use Rattle.delay_file.proofs.whole_file.push_registers.Goals as goal
 
 pub loop-number-preserved : goal.loop-number-preserved
 loop-number-preserved c =
-    one_taken _ _ _ c.args.names.now c.loop-number.number _ (omega arith) c.loop-number.invariant c.in-ok-push-register.ensures
+    one_taken _ _ _ c.args.names.now c.loop-number.number _ (omega arith) c.loop-number.invariant c.in_ok-push_register.ensures
 
-pub returns-in-err-push-register : goal.returns-in-err-push-register
-returns-in-err-push-register c =
-    let q = err_from_is_err_and c.from-residual.result c.from-residual.ensures.1 in
-    rw (q.1, q.2) (refused_name _ _ c.args.names.now c.loop-number.number _ _ (omega arith) c.loop-number.invariant c.in-err-push-register.ensures)
+pub returns-in_err-push_register : goal.returns-in_err-push_register
+returns-in_err-push_register c =
+    let q = err_from_is_err_and c.from_residual.result c.from_residual.ensures.1 in
+    rw (q.1, q.2) (refused_name _ _ c.args.names.now c.loop-number.number _ _ (omega arith) c.loop-number.invariant c.in_err-push_register.ensures)
 
 pub returns : goal.returns
 returns c = all_taken _ _ c.args.names.now c.loop-number.number (omega arith) (omega arith) c.loop-number.invariant

@@ -13,8 +13,8 @@ returns-in-Ok g c =
       first = λ _. tt;
       writable =
           let l = granted_limits m c.args.pins.now c.args.ceiling d.period d.offset d.domains.now c.in-Ok.ensures in
-          let n = c.register-count.ensures.value in
-          let k = c.register-count.ensures.lawful.count in
+          let n = c.register_count.ensures.value in
+          let k = c.register_count.ensures.lawful.count in
           record { period_within = l.0; offset_within = l.1; registers_within = (omega arith, omega arith); domains_long = omega (arith, l.2) };
       same = search rules;
     }

@@ -2,14 +2,14 @@ use Rattle.std.proofs.Common.{◌≡◌, ℕ, ◌+◌, Bool, sym, ◌∙◌, ari
 use Rattle.plan_file.specs.PlanRecords.{late_at}
 use Rattle.plan_file.proofs.Packed.{set_bit, skip_bit, packed_all, packed_none}
 use Rattle.plan_file.proofs.domain_word.domain_word.Goals as goal
-use Rattle.plan_file.proofs.domain_word.domain_word.Goals.{then-is-late, else-is-late}
+use Rattle.plan_file.proofs.domain_word.domain_word.Goals.{then-is_late, else-is_late}
 
 pub loop-i-preserved : goal.loop-i-preserved
 loop-i-preserved c =
     let f : ℕ → Bool = λ i. late_at c.args.registers c.args.domains.now (c.args.first + i) in
-    elim c.if-is-late.branch [
-      | then-is-late w ↦ w.word_is ∙ set_bit f c.loop-i.i c.loop-i.word (omega arith) (sym c.is-late.ensures ∙ w.if-is-late.true) c.loop-i.invariant
-      | else-is-late w ↦ w.word_is ∙ skip_bit f c.loop-i.i c.loop-i.word (sym c.is-late.ensures ∙ w.if-is-late.false) c.loop-i.invariant
+    elim c.if-is_late.branch [
+      | then-is_late w ↦ w.word_is ∙ set_bit f c.loop-i.i c.loop-i.word (omega arith) (sym c.is_late.ensures ∙ w.if-is_late.true) c.loop-i.invariant
+      | else-is_late w ↦ w.word_is ∙ skip_bit f c.loop-i.i c.loop-i.word (sym c.is_late.ensures ∙ w.if-is_late.false) c.loop-i.invariant
     ]
 
 pub returns : goal.returns

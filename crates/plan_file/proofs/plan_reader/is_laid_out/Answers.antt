@@ -7,5 +7,5 @@ use Rattle.plan_file.proofs.plan_reader.is_laid_out.Goals as goal
 pub returns : goal.returns
 returns c =
     let xs = c.args.«record».now in
-    c.all-zero.ensures ∙ ap (every is_zero) (take_rest xs c.args.end)
+    c.all_zero.ensures ∙ ap (every is_zero) (take_rest xs c.args.end)
     ∙ laid_by_rest c.args.kind c.args.second c.args.end xs (omega arith) (omega arith) (omega arith) (omega arith) (omega arith)

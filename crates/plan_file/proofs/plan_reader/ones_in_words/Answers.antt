@@ -14,8 +14,8 @@ returns-in-None c =
     let bytes = c.args.bytes.now in
     let j = c.loop-word.word in
     let b = not_read _ _ c.in-None.ensures in
-    let e = good_until bytes n j (omega (arith, c.word-count-words.ensures)) c.loop-word.invariant.0 (ap (word_good n (64 * j)) (sym c.record-bytes.ensures.bytes) ∙ b) in
-    (words_short bytes n (omega (arith, c.word-count-words.ensures)), ap (λ f. refused (refusal_number f.refusal) f.«record») c.at.ensures ∙ ap (λ k. refused 13 (Some (1 + k))) (sym e))
+    let e = good_until bytes n j (omega (arith, c.word_count-words.ensures)) c.loop-word.invariant.0 (ap (word_good n (64 * j)) (sym c.record_bytes.ensures.bytes) ∙ b) in
+    (words_short bytes n (omega (arith, c.word_count-words.ensures)), ap (λ f. refused (refusal_number f.refusal) f.«record») c.at.ensures ∙ ap (λ k. refused 13 (Some (1 + k))) (sym e))
 
 pub loop-word-preserved : goal.loop-word-preserved
 loop-word-preserved c =
@@ -23,9 +23,9 @@ loop-word-preserved c =
     let bytes = c.args.bytes.now in
     let j = c.loop-word.word in
     let w = was_read _ _ _ c.in-Some.ensures in
-    let r = c.record-bytes.ensures.bytes in
+    let r = c.record_bytes.ensures.bytes in
     let o = ap ones (w.1 ∙ ap (λ xs. be64 xs 8) r) in (
-      good_more bytes n j (omega (arith, c.word-count-words.ensures)) c.loop-word.invariant.0 (ap (word_good n (64 * j)) (sym r) ∙ w.0),
+      good_more bytes n j (omega (arith, c.word_count-words.ensures)) c.loop-word.invariant.0 (ap (word_good n (64 * j)) (sym r) ∙ w.0),
       ap (λ k. c.loop-word.late + k) o ∙ ones_more bytes n j c.loop-word.late c.loop-word.invariant.1,
       omega (arith, ones-le 64 c.in-Some.bits (search rules)),
     )
@@ -34,7 +34,7 @@ pub returns-then-bytes-words : goal.returns-then-bytes-words
 returns-then-bytes-words c =
     let n = c.args.registers in
     let bytes = c.args.bytes.now in
-    let q = c.word-count-words.ensures in
+    let q = c.word_count-words.ensures in
     let e = good_all bytes n c.loop-word.word (omega (arith, q)) c.loop-word.invariant.0 in
     (words_extra bytes n (omega (arith, q)), ap (λ f. refused (refusal_number f.refusal) f.«record») c.at-then-bytes-words.ensures ∙ ap (λ k. refused 13 (Some (1 + k))) (q ∙ sym e))
 
@@ -42,6 +42,6 @@ pub returns : goal.returns
 returns c =
     let n = c.args.registers in
     let bytes = c.args.bytes.now in
-    let q = c.word-count-words.ensures in
+    let q = c.word_count-words.ensures in
     let e = good_all bytes n c.loop-word.word (omega (arith, q)) c.loop-word.invariant.0 in
     (words_whole bytes n e (omega (arith, q)), c.loop-word.invariant.1 ∙ ap (ones_in bytes) (omega (arith, q)))

@@ -4,8 +4,8 @@ use Rattle.plan_file.proofs.plan_records.head_bytes.Goals as goal
 
 pub returns : goal.returns
 returns c =
-    let a : c.copy-from-slice.new.self ≡ bytes_of c.args.period = c.copy-from-slice.ensures.after ∙ c.to-be-bytes.ensures in
-    let b : c.copy-from-slice-2.new.self ≡ bytes_of c.args.offset = c.copy-from-slice-2.ensures.after ∙ c.to-be-bytes-2.ensures in
-    let n : c.copy-from-slice-3.new.self ≡ bytes_of c.args.registers = c.copy-from-slice-3.ensures.after ∙ c.to-be-bytes-3.ensures in
-    let l : c.copy-from-slice-4.new.self ≡ bytes_of c.args.late = c.copy-from-slice-4.ensures.after ∙ c.to-be-bytes-4.ensures in
+    let a : c.copy_from_slice.new.self ≡ bytes_of c.args.period = c.copy_from_slice.ensures.after ∙ c.to_be_bytes.ensures in
+    let b : c.copy_from_slice-2.new.self ≡ bytes_of c.args.offset = c.copy_from_slice-2.ensures.after ∙ c.to_be_bytes-2.ensures in
+    let n : c.copy_from_slice-3.new.self ≡ bytes_of c.args.registers = c.copy_from_slice-3.ensures.after ∙ c.to_be_bytes-3.ensures in
+    let l : c.copy_from_slice-4.new.self ≡ bytes_of c.args.late = c.copy_from_slice-4.ensures.after ∙ c.to_be_bytes-4.ensures in
     rw (a, b, n, l) refl

@@ -4,8 +4,8 @@ use Rattle.plan_report.proofs.Lines.{line_short}
 use Rattle.plan_report.proofs.Names.{lawful_there, line_there, never_refused}
 use Rattle.plan_report.proofs.report.put_register.Goals as goal
 
-pub put-record-requires : goal.put-record-requires
-put-record-requires c =
+pub put_record-requires : goal.put_record-requires
+put_record-requires c =
     let file = c.args.view.now.bytes.now in
     let k = c.args.register in
     let e = line_there file k c.requires.known _ c.args.domain c.in-Ok.ensures in
@@ -16,7 +16,7 @@ pub returns-in-Ok : goal.returns-in-Ok
 returns-in-Ok c =
     let file = c.args.view.now.bytes.now in
     let e = line_there file c.args.register c.requires.known _ c.args.domain c.in-Ok.ensures in
-    rw (← e) c.put-record.ensures
+    rw (← e) c.put_record.ensures
 
 pub returns-in-Err : goal.returns-in-Err
 returns-in-Err c = absurd (never_refused c.args.view.now.bytes.now c.args.register c.requires.known _ _ c.in-Err.ensures)

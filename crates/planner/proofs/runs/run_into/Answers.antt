@@ -12,10 +12,10 @@ loop-call-init c =
 pub loop-call-preserved : goal.loop-call-preserved
 loop-call-preserved c = (
   runs_more (book c.args.session.now) (book c.loop-call.session) (book c.step.new.session) c.args.calls.now c.loop-call.call-index
-      c.loop-call.answers.items c.push-reserved.new.self.items c.call-item.result c.step.result
-      c.loop-call-test.true c.call-item.is c.loop-call.invariant.0 c.step.ensures.right c.step.ensures.next c.push-reserved.ensures.items,
-  (let n = c.loop-call.invariant.1 in omega (arith, c.push-reserved.ensures.len)),
-  (let n = c.loop-call.invariant.2 in omega (arith, c.push-reserved.ensures.capacity)),
+      c.loop-call.answers.items c.push_reserved.new.self.items c.call-item.result c.step.result
+      c.loop-call-test.true c.call-item.is c.loop-call.invariant.0 c.step.ensures.right c.step.ensures.next c.push_reserved.ensures.items,
+  (let n = c.loop-call.invariant.1 in omega (arith, c.push_reserved.ensures.len)),
+  (let n = c.loop-call.invariant.2 in omega (arith, c.push_reserved.ensures.capacity)),
 )
 
 pub returns : goal.returns

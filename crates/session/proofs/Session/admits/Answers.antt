@@ -17,16 +17,16 @@ admit-requires c =
     let v = c.args.view.now in
     let l = given_length v in
     let n = entry_count_is v in
-    record { same = c.requires; within = omega (arith, c.entry-count-place-end.ensures); order = c.loop-place.invariant.0 }
+    record { same = c.requires; within = omega (arith, c.entry_count-place-end.ensures); order = c.loop-place.invariant.0 }
 
-pub returns-in-err-order : goal.returns-in-err-order
-returns-in-err-order c =
-    let q = err_from_is_err_and c.from-residual.result c.from-residual.ensures.1 in
+pub returns-in_err-order : goal.returns-in_err-order
+returns-in_err-order c =
+    let q = err_from_is_err_and c.from_residual.result c.from_residual.ensures.1 in
     let v = c.args.view.now in
     let l = given_length v in
     let n = entry_count_is v in
-    let h : c.loop-place.place < length (given_pairs v) = omega (arith, c.entry-count-place-end.ensures) in
-    rw (q.1, q.2) (c.loop-place.invariant.1 ∙ load_stop v c.loop-place.place h (with_first (book c.args.self.now) v c.loop-place.place) _ c.in-err-order.ensures)
+    let h : c.loop-place.place < length (given_pairs v) = omega (arith, c.entry_count-place-end.ensures) in
+    rw (q.1, q.2) (c.loop-place.invariant.1 ∙ load_stop v c.loop-place.place h (with_first (book c.args.self.now) v c.loop-place.place) _ c.in_err-order.ensures)
 
 pub loop-place-preserved : goal.loop-place-preserved
 loop-place-preserved c =
@@ -35,11 +35,11 @@ loop-place-preserved c =
     let i = c.loop-place.place in
     let l = given_length v in
     let n = entry_count_is v in
-    let h : i < length (given_pairs v) = omega (arith, c.entry-count-place-end.ensures) in
-    let a = c.in-ok-order.ensures in
+    let h : i < length (given_pairs v) = omega (arith, c.entry_count-place-end.ensures) in
+    let a = c.in_ok-order.ensures in
     (a.4, c.loop-place.invariant.1 ∙ load_on v i h (with_first b v i) (with_first b v (i + 1)) a.0 a.1 a.3 (first_more v i h b a.0 a.2))
 
 pub returns : goal.returns
 returns c =
     let v = c.args.view.now in
-    (_, c.loop-place.invariant.1 ∙ load_end v c.loop-place.place _ (with_first (book c.args.self.now) v c.loop-place.place) (omega (arith, c.entry-count-place-end.ensures)))
+    (_, c.loop-place.invariant.1 ∙ load_end v c.loop-place.place _ (with_first (book c.args.self.now) v c.loop-place.place) (omega (arith, c.entry_count-place-end.ensures)))

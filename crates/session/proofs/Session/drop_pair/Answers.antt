@@ -5,8 +5,8 @@ use Rattle.session.proofs.Books.{same_book, drop_taken}
 use Rattle.session.proofs.Look.{found_is, find_moved, apart_moved, lawful_wrote}
 use Rattle.session.proofs.Session.drop_pair.Goals as goal
 
-pub invariant-of-self : goal.invariant-of-self
-invariant-of-self c =
+pub invariant_of-self : goal.invariant_of-self
+invariant_of-self c =
     let s = c.args.self.now in
     let xs = s.pairs.items in
     let n = s.used in

@@ -4,8 +4,8 @@ use Rattle.session.proofs.Books.{same_book, addable}
 use Rattle.session.proofs.Look.{find_added, apart_added, lawful_wrote, none_missing}
 use Rattle.session.proofs.Session.put.Goals as goal
 
-pub invariant-of-self : goal.invariant-of-self
-invariant-of-self c =
+pub invariant_of-self : goal.invariant_of-self
+invariant_of-self c =
     let s = c.args.self.now in
     let xs = s.pairs.items in
     let n = s.used in

@@ -4,8 +4,8 @@ use Rattle.session.proofs.Books.{same_book, kept_limits, retime_taken}
 use Rattle.session.proofs.Look.{found_is, find_replaced, apart_replaced, lawful_wrote}
 use Rattle.session.proofs.Session.retime.Goals as goal
 
-pub invariant-of-self : goal.invariant-of-self
-invariant-of-self c =
+pub invariant_of-self : goal.invariant_of-self
+invariant_of-self c =
     let s = c.args.self.now in
     let xs = s.pairs.items in
     let n = s.used in
@@ -14,7 +14,7 @@ invariant-of-self c =
     let h : i < n = f.0 in
     let p = c.args.pair in
     let l : n ≤ length xs = let o = s.pairs.ok.0 in omega arith in
-    let w = kept_limits s.registers p c.in-ok-validate.field-0 (sym c.in-ok-validate.ensures.answer) in (
+    let w = kept_limits s.registers p c.in_ok-validate.field-0 (sym c.in_ok-validate.ensures.answer) in (
       s.registers_within,
       (
         omega arith,
@@ -39,7 +39,7 @@ returns-in-Some c =
     let p = c.args.pair in
     let l : s.used ≤ length xs = let o = s.pairs.ok.0 in omega arith in
     record {
-      answer = retime_taken (book s) p c.in-ok-validate.field-0 (get_or xs c.in-Some.place p) (sym c.in-ok-validate.ensures.answer) (found_is s.used xs p.launch p.capture c.in-Some.place l s.apart f.0 f.1 p);
+      answer = retime_taken (book s) p c.in_ok-validate.field-0 (get_or xs c.in-Some.place p) (sym c.in_ok-validate.ensures.answer) (found_is s.used xs p.launch p.capture c.in-Some.place l s.apart f.0 f.1 p);
       next = same_book _ _ refl refl (find_replaced s.used xs c.in-Some.place p l f.0 f.1 s.apart) refl refl refl;
       stays = refl;
     }

@@ -18,16 +18,16 @@ returns-in-Some c =
 pub returns-then-repeats : goal.returns-then-repeats
 returns-then-repeats c =
     let s = c.args.self.now in
-    turn_present (book s) (given_pairs c.args.view.now) c.args.place c.args.pair (omega (arith, c.requires.within)) c.requires.lawful true false (sym c.repeats.ensures ∙ c.if-repeats.true) (ap (λ (o : Option Pair). is_some o) c.in-default.ensures) refl
+    turn_present (book s) (given_pairs c.args.view.now) c.args.place c.args.pair (omega (arith, c.requires.within)) c.requires.lawful true false (sym c.repeats.ensures ∙ c.if-repeats.true) (ap (λ (o : Option Pair). is_some o) c.in_default.ensures) refl
 
 pub returns-then-spare-place : goal.returns-then-spare-place
 returns-then-spare-place c =
     let s = c.args.self.now in
     let h : min s.pairs.len 16384 - s.used ≤ c.args.place = omega (arith, c.if-spare-place.true, c.min.ensures, c.len.ensures) in
-    turn_full (book s) (given_pairs c.args.view.now) c.args.place c.args.pair (omega (arith, c.requires.within)) c.requires.lawful (sym c.repeats.ensures ∙ c.if-repeats.false) (ap (λ (o : Option Pair). is_some o) c.in-default.ensures) (none_spare s.pairs.len s.used c.args.place h)
+    turn_full (book s) (given_pairs c.args.view.now) c.args.place c.args.pair (omega (arith, c.requires.within)) c.requires.lawful (sym c.repeats.ensures ∙ c.if-repeats.false) (ap (λ (o : Option Pair). is_some o) c.in_default.ensures) (none_spare s.pairs.len s.used c.args.place h)
 
 pub returns : goal.returns
 returns c =
     let s = c.args.self.now in
-    turn_taken (book s) (given_pairs c.args.view.now) c.args.place c.args.pair (omega (arith, c.requires.within)) c.requires.lawful (sym c.repeats.ensures ∙ c.if-repeats.false) (ap (λ (o : Option Pair). is_some o) c.in-default.ensures)
+    turn_taken (book s) (given_pairs c.args.view.now) c.args.place c.args.pair (omega (arith, c.requires.within)) c.requires.lawful (sym c.repeats.ensures ∙ c.if-repeats.false) (ap (λ (o : Option Pair). is_some o) c.in_default.ensures)
     (omega (arith, c.if-spare-place.false, c.min.ensures)) (omega (arith, c.if-spare-place.false, c.min.ensures, c.len.ensures))

@@ -7,5 +7,5 @@ use Rattle.session.proofs.loading.repeats.Goals as goal
 pub returns-in-RisesTo : goal.returns-in-RisesTo
 returns-in-RisesTo c = rising_new (given_pairs c.args.view.now) c.args.place c.args.pair _ c.requires.within c.requires.given (subst (KnownOrder (given_pairs c.args.view.now) (c.args.place + 1)) c.in-RisesTo.is c.requires.order)
 
-pub returns-in-default : goal.returns-in-default
-returns-in-default c = joins_found c.args.view.now c.args.place c.args.pair.launch c.args.pair.capture (omega (arith, c.requires.within)) c.joins-before.result c.joins-before.ensures
+pub returns-in_default : goal.returns-in_default
+returns-in_default c = joins_found c.args.view.now c.args.place c.args.pair.launch c.args.pair.capture (omega (arith, c.requires.within)) c.joins_before.result c.joins_before.ensures

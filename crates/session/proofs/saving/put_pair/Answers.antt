@@ -5,4 +5,4 @@ use Rattle.session.proofs.saving.put_pair.Goals as goal
 
 pub returns : goal.returns
 returns c =
-    put_is c.args.out.now c.copy-from-slice.new.self (pair_bytes c.args.pair) (c.args.place * 32) (c.copy-from-slice.ensures.after ∙ c.encode-pair.ensures.bytes)
+    put_is c.args.out.now c.copy_from_slice.new.self (pair_bytes c.args.pair) (c.args.place * 32) (c.copy_from_slice.ensures.after ∙ c.encode_pair.ensures.bytes)

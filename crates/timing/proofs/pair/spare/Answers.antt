@@ -23,8 +23,8 @@ apart c =
 left : (c : goal.After-from-3) → to_z w128 (of_z w128 c.from-3.result) -ℤ to_z w128 (of_z w128 (to_z w128 (of_z w128 c.from.result) -ℤ to_z w128 (of_z w128 c.from-2.result))) ≡ c.args.room -ℤ (c.args.later -ℤ c.args.sooner)
 left c = ap₂ (λ a b. a -ℤ b) (widened c.args.room c.from-3.result c.ranges.room c.from-3.ensures) (apart c)
 
-pub overflow-sub-result : goal.overflow-sub-result
-overflow-sub-result c = rw (left c) (spare-fits _ _ _ c.ranges.room c.ranges.later c.ranges.sooner)
+pub overflow_sub-result : goal.overflow_sub-result
+overflow_sub-result c = rw (left c) (spare-fits _ _ _ c.ranges.room c.ranges.later c.ranges.sooner)
 
 pub returns : goal.returns
 returns c =

@@ -2,15 +2,15 @@ use Rattle.std.proofs.Common.{sym, ◌∙◌, arith}
 use Rattle.timing.proofs.Places.{faulty_here, faulty_later, faulty_nowhere}
 use Rattle.timing.proofs.readable.first_faulty.Goals as goal
 
-pub returns-then-is-err : goal.returns-then-is-err
-returns-then-is-err g c =
+pub returns-then-is_err : goal.returns-then-is_err
+returns-then-is_err g c =
     let m = g.S.DelaySource.meaning c.args.source.now in
-    sym (c.loop-place.invariant ∙ faulty_here m c.loop-place.place c.entry.result (omega arith) c.entry.ensures.value (sym c.if-is-err.ensures.value))
+    sym (c.loop-place.invariant ∙ faulty_here m c.loop-place.place c.entry.result (omega arith) c.entry.ensures.value (sym c.if-is_err.ensures.value))
 
 pub loop-place-preserved : goal.loop-place-preserved
 loop-place-preserved g c =
     let m = g.S.DelaySource.meaning c.args.source.now in
-    c.loop-place.invariant ∙ faulty_later m c.loop-place.place c.entry.result (omega arith) c.entry.ensures.value (sym c.if-is-err.ensures.value)
+    c.loop-place.invariant ∙ faulty_later m c.loop-place.place c.entry.result (omega arith) c.entry.ensures.value (sym c.if-is_err.ensures.value)
 
 pub returns : goal.returns
 returns g c =

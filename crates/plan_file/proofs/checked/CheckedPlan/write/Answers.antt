@@ -9,8 +9,8 @@ returns c =
     let n = c.args.self.now.registers in
     let ds = c.args.self.now.domains.now in
     record {
-      wrote = c.write-plan.ensures;
-      reads_back = written_reads_back c.args.self.now.period c.args.self.now.offset n ds c.args.out.now c.write-plan.new.out c.write-plan.result c.write-plan.ensures;
+      wrote = c.write_plan.ensures;
+      reads_back = written_reads_back c.args.self.now.period c.args.self.now.offset n ds c.args.out.now c.write_plan.new.out c.write_plan.result c.write_plan.ensures;
       bits = λ first i h. bit_of_packed (λ (i : ℕ). late_at n ds (first + i)) 64 i h;
       ones = λ first. ones_packed (λ (i : ℕ). late_at n ds (first + i)) 64;
     }
