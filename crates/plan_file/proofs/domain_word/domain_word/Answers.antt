@@ -8,8 +8,8 @@ pub loop-i-preserved : goal.loop-i-preserved
 loop-i-preserved c =
     let f : ℕ → Bool = λ i. late_at c.args.registers c.args.domains.now (c.args.first + i) in
     elim c.if-is_late.branch [
-      | then-is_late w ↦ w.word_is ∙ set_bit f c.loop-i.i c.loop-i.word (omega arith) (sym c.is_late.ensures ∙ w.if-is_late.true) c.loop-i.invariant
-      | else-is_late w ↦ w.word_is ∙ skip_bit f c.loop-i.i c.loop-i.word (sym c.is_late.ensures ∙ w.if-is_late.false) c.loop-i.invariant
+      | then-is_late w ↦ w.word-is ∙ set_bit f c.loop-i.i c.loop-i.word (omega arith) (sym c.is_late.ensures ∙ w.if-is_late.true) c.loop-i.invariant
+      | else-is_late w ↦ w.word-is ∙ skip_bit f c.loop-i.i c.loop-i.word (sym c.is_late.ensures ∙ w.if-is_late.false) c.loop-i.invariant
     ]
 
 pub returns : goal.returns

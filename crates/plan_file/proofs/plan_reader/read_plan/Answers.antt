@@ -8,7 +8,7 @@ pub returns-then-domains-head : goal.returns-then-domains-head
 returns-then-domains-head c =
     let bytes = c.args.bytes.now in
     let h = c.in-Some.head in
-    let f = found bytes _ h _ c.type-inv.bytes c.if-bytes-ne0.false c.record_bytes.ensures.bytes c.in-Some.ensures c.in_ok-ones_in_words.ensures c.if-branch-head.false in
+    let f = found bytes _ h _ c.type_inv.bytes c.if-bytes-ne0.false c.record_bytes.ensures.bytes c.in-Some.ensures c.in_ok-ones_in_words.ensures c.if-branch-head.false in
     record {
       answer = ap (λ e. refused (refusal_number e.refusal) e.«record») c.of_file-then-domains-head.ensures ∙ sym (read_short bytes h f (length c.args.domains.now) c.if-domains-head.true);
       rest = refl;
@@ -19,7 +19,7 @@ pub fill_domains-requires : goal.fill_domains-requires
 fill_domains-requires c =
     let bytes = c.args.bytes.now in
     let h = c.in-Some.head in
-    let f = found bytes _ h _ c.type-inv.bytes c.if-bytes-ne0.false c.record_bytes.ensures.bytes c.in-Some.ensures c.in_ok-ones_in_words.ensures c.if-branch-head.false in
+    let f = found bytes _ h _ c.type_inv.bytes c.if-bytes-ne0.false c.record_bytes.ensures.bytes c.in-Some.ensures c.in_ok-ones_in_words.ensures c.if-branch-head.false in
     record { room = c.if-domains-head.false; words = room_for_words bytes h f }
 
 pub returns : goal.returns
@@ -28,7 +28,7 @@ returns c =
     let was = c.args.domains.now in
     let out = c.fill_domains.new.domains in
     let h = c.in-Some.head in
-    let f = found bytes _ h _ c.type-inv.bytes c.if-bytes-ne0.false c.record_bytes.ensures.bytes c.in-Some.ensures c.in_ok-ones_in_words.ensures c.if-branch-head.false in
+    let f = found bytes _ h _ c.type_inv.bytes c.if-bytes-ne0.false c.record_bytes.ensures.bytes c.in-Some.ensures c.in_ok-ones_in_words.ensures c.if-branch-head.false in
     record {
       answer = read_granted bytes h f was out c.if-domains-head.false c.fill_domains.ensures;
       rest = read_rest bytes h f was out c.if-domains-head.false c.fill_domains.ensures;
