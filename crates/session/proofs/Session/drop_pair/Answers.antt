@@ -14,22 +14,15 @@ invariant_of-self c =
     let h : i < n = c.in-Some.ensures.0 in
     let p = c.index-last.result.now in
     let l : n ≤ length xs = let o = s.pairs.ok.0 in omega arith in
-    let w = subst (KeepsLimits s.registers) (sym c.index-last.ensures) (s.lawful (n - 1) p (omega arith)) in (
-      s.registers_within,
-      (
-        omega arith,
-        (
-          omega (arith, s.few),
-          (
-            s.pin_bytes,
-            (
-              apart_moved n xs i p p l h c.index-last.ensures s.apart,
-              (lawful_wrote s.registers n (n - 1) xs i p (omega arith) w (λ k m ne. omega arith) s.lawful, tt),
-            ),
-          ),
-        ),
-      ),
-    )
+    let w = subst (KeepsLimits s.registers) (sym c.index-last.ensures) (s.lawful (n - 1) p (omega arith)) in
+    record {
+      registers_within = s.registers_within;
+      fits = omega arith;
+      few = omega (arith, s.few);
+      pin_bytes = s.pin_bytes;
+      apart = apart_moved n xs i p p l h c.index-last.ensures s.apart;
+      lawful = lawful_wrote s.registers n (n - 1) xs i p (omega arith) w (λ k m ne. omega arith) s.lawful;
+    }
 
 pub returns-in-Some : goal.returns-in-Some
 returns-in-Some c =

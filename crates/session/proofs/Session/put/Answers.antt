@@ -11,22 +11,15 @@ invariant_of-self c =
     let n = s.used in
     let p = c.args.pair in
     let t = addable (book s) p c.requires in
-    let l : n < length xs = let o = s.pairs.ok.0 in let q = t.room in omega arith in (
-      s.registers_within,
-      (
-        omega (arith, t.room),
-        (
-          omega (arith, t.few),
-          (
-            s.pin_bytes,
-            (
-              apart_added n xs p l s.apart (none_missing n xs p.launch p.capture (omega arith) t.absent),
-              (lawful_wrote s.registers n _ xs n p l t.limits (λ k h ne. omega arith) s.lawful, tt),
-            ),
-          ),
-        ),
-      ),
-    )
+    let l : n < length xs = let o = s.pairs.ok.0 in let q = t.room in omega arith in
+    record {
+      registers_within = s.registers_within;
+      fits = omega (arith, t.room);
+      few = omega (arith, t.few);
+      pin_bytes = s.pin_bytes;
+      apart = apart_added n xs p l s.apart (none_missing n xs p.launch p.capture (omega arith) t.absent);
+      lawful = lawful_wrote s.registers n _ xs n p l t.limits (λ k h ne. omega arith) s.lawful;
+    }
 
 pub returns : goal.returns
 returns c =

@@ -14,22 +14,15 @@ invariant_of-self c =
     let h : i < n = f.0 in
     let p = c.args.pair in
     let l : n ≤ length xs = let o = s.pairs.ok.0 in omega arith in
-    let w = kept_limits s.registers p c.in_ok-validate.field-0 (sym c.in_ok-validate.ensures.answer) in (
-      s.registers_within,
-      (
-        omega arith,
-        (
-          s.few,
-          (
-            s.pin_bytes,
-            (
-              apart_replaced n xs i p l h f.1 s.apart,
-              (lawful_wrote s.registers n n xs i p (omega arith) w (λ k m ne. m) s.lawful, tt),
-            ),
-          ),
-        ),
-      ),
-    )
+    let w = kept_limits s.registers p c.in_ok-validate.field-0 (sym c.in_ok-validate.ensures.answer) in
+    record {
+      registers_within = s.registers_within;
+      fits = omega arith;
+      few = s.few;
+      pin_bytes = s.pin_bytes;
+      apart = apart_replaced n xs i p l h f.1 s.apart;
+      lawful = lawful_wrote s.registers n n xs i p (omega arith) w (λ k m ne. m) s.lawful;
+    }
 
 pub returns-in-Some : goal.returns-in-Some
 returns-in-Some c =
