@@ -17,17 +17,17 @@ mod shown;
 mod slack;
 mod words;
 
-use anyhow::anyhow;
 use commands::{Command, Outcome, USAGE, read_command};
 use std::env;
+use std::process::ExitCode;
 
-fn main(rt: HostRuntime) -> anyhow::Result<()> {
+fn main(rt: HostRuntime) -> anyhow::Result<ExitCode> {
     match run(&rt) {
-        Ok(Outcome::Granted) => Ok(()),
-        Ok(Outcome::Refused) => Err(anyhow!("refused")),
+        Ok(Outcome::Granted) => Ok(ExitCode::SUCCESS),
+        Ok(Outcome::Refused) => Ok(ExitCode::FAILURE),
         Err(error) => {
             eprintln!(rt; "clockplan: {error}")?;
-            Err(error)
+            Ok(ExitCode::FAILURE)
         }
     }
 }

@@ -118,7 +118,7 @@ fn sorted_spares(
             })?;
         }
     }
-    spares.sort();
+    spares.sort()?;
     Ok(spares)
 }
 
