@@ -57,7 +57,7 @@ fn three_registers(rt: HostRuntime) -> Result<(), Fail> {
         0, 0, 17, 2, 0, 0, 0, 0, 0, 0, 0, 0, 0, 0, 0, 0, 0, 5, 0, 0, 0, 0, 0, 0, 0, 0, 0, 0, 0, 0,
         0, 0, 0, 0,
     ];
-    assert_eq!(rt; out.as_slice() == &expected, true);
+    assert_eq!(rt; out.as_slice() == expected.as_slice(), true);
     Ok(())
 }
 

@@ -88,16 +88,16 @@ fn pair_memory_that_is_full(rt: HostRuntime) -> Result<(), Fail> {
 fn pins_and_the_ceiling(rt: HostRuntime) -> Result<(), Fail> {
     let heap = rt.alloc();
     let mut session = opened(heap, 3, 1)?;
-    assert!(rt; session.pins() == &[2, 2, 2]);
+    assert!(rt; session.pins() == [2, 2, 2].as_slice());
     assert_eq!(rt; session.ceiling(), 1_000_000);
     assert_eq!(rt; session.pin(1, Domain::Early), Ok(()));
-    assert!(rt; session.pins() == &[2, 0, 2]);
+    assert!(rt; session.pins() == [2, 0, 2].as_slice());
     assert_eq!(rt; session.pin(1, Domain::Late), Ok(()));
     assert_eq!(rt; session.pin(2, Domain::Early), Ok(()));
-    assert!(rt; session.pins() == &[2, 1, 0]);
+    assert!(rt; session.pins() == [2, 1, 0].as_slice());
     assert_eq!(rt; session.unpin(1), Ok(()));
     assert_eq!(rt; session.unpin(0), Ok(()));
-    assert!(rt; session.pins() == &[2, 2, 0]);
+    assert!(rt; session.pins() == [2, 2, 0].as_slice());
     for (ceiling, answer) in [(0u32, 0u32), (1_000_000, 0), (5, 0), (1_000_001, 7)] {
         assert_eq!(rt; number(session.set_ceiling(ceiling)), answer);
         if answer == 0 {
@@ -134,7 +134,7 @@ fn openings_refused(rt: HostRuntime) -> Result<(), Fail> {
             return Err(Fail::new("the opening is refused"));
         };
         assert_eq!(rt; unopened.refusal, refusal);
-        assert!(rt; unopened.pair_memory.as_slice() == &[spare, spare]);
+        assert!(rt; unopened.pair_memory.as_slice() == [spare, spare].as_slice());
         assert_eq!(rt; unopened.pin_memory.len(), bytes);
         for byte in unopened.pin_memory.as_slice() {
             assert_eq!(rt; *byte, 9);
@@ -158,9 +158,9 @@ fn memory_that_is_not_used(rt: HostRuntime) -> Result<(), Fail> {
     assert_eq!(rt; number(session.pin(2, Domain::Late)), 0);
     assert_eq!(rt; number(session.pin(3, Domain::Late)), 2);
     assert_eq!(rt; number(session.add(pair(0, 1, 2, 6))), 0);
-    assert!(rt; session.pins() == &[2, 2, 1]);
+    assert!(rt; session.pins() == [2, 2, 1].as_slice());
     let (pair_memory, pin_memory) = session.close();
-    assert!(rt; pin_memory.as_slice() == &[2, 2, 1, 9, 9]);
-    assert!(rt; pair_memory.as_slice() == &[pair(0, 1, 2, 6), spare]);
+    assert!(rt; pin_memory.as_slice() == [2, 2, 1, 9, 9].as_slice());
+    assert!(rt; pair_memory.as_slice() == [pair(0, 1, 2, 6), spare].as_slice());
     Ok(())
 }

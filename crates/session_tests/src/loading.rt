@@ -53,7 +53,7 @@ fn good_files(rt: HostRuntime) -> Result<(), Fail> {
     let bytes = file(heap, 3, &[first, second])?;
     assert_eq!(rt; stop(session.load(bytes.as_slice())), (0, None));
     assert!(rt; shows(&session, &[first, second, pair(2, 2, 1, 1)]));
-    assert!(rt; session.pins() == &[2, 1, 2]);
+    assert!(rt; session.pins() == [2, 1, 2].as_slice());
     assert_eq!(rt; session.ceiling(), 5);
     assert_eq!(rt;
         stopped(&rt, heap, &mut session, bytes.as_slice())?,

@@ -119,9 +119,9 @@ fn calls_granted_and_refused(rt: HostRuntime) -> Result<(), Fail> {
     let Some(Answer::Saved(Ok(saved))) = answers.get(13) else {
         return Err(Fail::new("the pair is saved"));
     };
-    assert!(rt; saved.as_slice() == &encode_pair(pair(0, 1, 4, 5)));
+    assert!(rt; saved.as_slice() == encode_pair(pair(0, 1, 4, 5)).as_slice());
     assert!(rt; shows(&session, &[pair(0, 1, 4, 5)]));
-    assert!(rt; session.pins() == &[2, 2, 1]);
+    assert!(rt; session.pins() == [2, 2, 1].as_slice());
     assert_eq!(rt; session.ceiling(), 12);
     Ok(())
 }
@@ -169,7 +169,7 @@ fn runs_from_opening(rt: HostRuntime) -> Result<(), Fail> {
         return Err(Fail::new("the opening is refused"));
     };
     assert_eq!(rt; unopened.refusal, Refusal::MemoryTooShort);
-    assert!(rt; unopened.pin_memory.as_slice() == &[9, 9]);
-    assert!(rt; unopened.pair_memory.as_slice() == &[spare]);
+    assert!(rt; unopened.pin_memory.as_slice() == [9, 9].as_slice());
+    assert!(rt; unopened.pair_memory.as_slice() == [spare].as_slice());
     Ok(())
 }

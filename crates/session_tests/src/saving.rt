@@ -31,8 +31,8 @@ fn memory_to_save_into(rt: HostRuntime) -> Result<(), Fail> {
     assert_eq!(rt; session.save(&mut exact), Ok(96));
     let mut long = [9u8; 100];
     assert_eq!(rt; session.save(&mut long), Ok(96));
-    assert!(rt; &long[0..96] == &exact);
-    assert!(rt; &long[96..100] == &[9, 9, 9, 9]);
+    assert!(rt; &long[0..96] == exact.as_slice());
+    assert!(rt; &long[96..100] == [9, 9, 9, 9].as_slice());
     let view = session.view();
     assert_eq!(rt; view.entry_count(), 3);
     for (place, record) in [
@@ -43,7 +43,7 @@ fn memory_to_save_into(rt: HostRuntime) -> Result<(), Fail> {
         let Ok(shown) = view.entry(place) else {
             return Err(Fail::new("the entry is there"));
         };
-        assert!(rt; record == &encode_pair(shown));
+        assert!(rt; record == encode_pair(shown).as_slice());
     }
     Ok(())
 }
@@ -62,7 +62,7 @@ fn saved_pairs_load_back(rt: HostRuntime) -> Result<(), Fail> {
     let mut other = opened(heap, 5, 6)?;
     assert_eq!(rt; stop(other.load(bytes.as_slice())), (0, None));
     assert!(rt; shows(&other, &pairs));
-    assert!(rt; other.pins() == &[2, 2, 2, 2, 2]);
+    assert!(rt; other.pins() == [2, 2, 2, 2, 2].as_slice());
     assert_eq!(rt; times_shown(&other, pair(4, 0, -3, 9)), 0);
     assert_eq!(rt; stop(session.load(bytes.as_slice())), (4, Some(5)));
     Ok(())
