@@ -1,5 +1,5 @@
 -- The words of a circuit's text.
-use Rattle.std.specs.Prelude.{◌≡◌, ℕ, true, false, List, ℤ, Some, None, codes, Option, FitsSigned, ◌≢◌}
+use Rattle.std.specs.Prelude.{◌≡◌, ℕ, false, List, ℤ, Some, None, codes, Option, FitsSigned, ◌≢◌}
 use Rattle.std.specs.Int.{w32}
 use Rattle.std.specs.Str.Parse.{IsNumeral, without_leading_sign, signed_digits_value}
 use Rattle.timing.specs.Bounds.{missing, missing_mark}

@@ -1,5 +1,5 @@
 -- Registers by their names.
-use Rattle.std.proofs.Common.{◌≡◌, ℕ, ◌+◌, ◌<◌, ◌≤◌, Bool, true, false, List, Some, Decides, unwrap_or, sym, ap, ◌∙◌, arith, below_more}
+use Rattle.std.proofs.Common.{◌≡◌, ℕ, ◌+◌, ◌<◌, ◌≤◌, Bool, false, List, Some, Decides, unwrap_or, sym, ap, ◌∙◌, arith, below_more}
 use Rattle.delay_file.specs.declared.view.FileView.{FileView}
 use Rattle.delay_file.specs.Files.{register_name, view_registers}
 use Rattle.clockplan.specs.Pins.{OnlyNamed, Unnamed}

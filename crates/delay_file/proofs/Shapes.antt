@@ -1,11 +1,10 @@
 -- What a record reads as, by its first four bytes.
-use Rattle.std.proofs.Common.{◌≡◌, ℕ, ◌+◌, Bool, true, false, cond, ◌&&◌, eqb, ◌⊎◌, List, length, get_or, drop, Some, Option, sym, refl, ap, ◌∙◌, inl, inr, arith, get_or-drop}
+use Rattle.std.proofs.Common.{◌≡◌, ℕ, Bool, true, false, cond, ◌&&◌, eqb, List, length, get_or, drop, Some, Option, refl, arith, get_or-drop}
 use Rattle.std.proofs.lemmas.List.{drop-drop}
-use Rattle.std.proofs.lemmas.Bool.Decides.{nat_tests}
 use Rattle.timing.specs.declared.pair.Pair.{Pair}
-use Rattle.delay_file.specs.Bytes.{be32, be_z, every, is_zero}
+use Rattle.delay_file.specs.Bytes.{be32, every, is_zero}
 use Rattle.delay_file.specs.Files.{numbered}
-use Rattle.delay_file.specs.Records.{Reading, register, delay, refused, reading, register_rest, pair_rest, starts, pair_fields, name_in, lawful_field}
+use Rattle.delay_file.specs.Records.{register, delay, refused, reading, register_rest, pair_rest, starts, pair_fields, name_in, lawful_field}
 
 pub reading_1 : (k : ℕ) (xs : List ℕ) → length xs ≡ 32 → get_or xs 0 0 ≡ 1 → get_or xs 1 0 ≡ 0 → get_or xs 2 0 ≡ 0 → get_or xs 3 0 ≡ 0 → reading k xs ≡ register_rest k (drop 4 xs)
 reading_1 k xs n p q r s = rw (n, p, q, r, s) (simp (drop-drop, get_or-drop))

@@ -1,14 +1,14 @@
 -- A written file opens as what it was made of.
-use Rattle.std.proofs.Common.{◌≡◌, ℕ, zero, suc, ◌+◌, ◌-◌, ◌*◌, ◌/◌, ◌%◌, ◌<◌, ◌≤◌, Bool, true, false, cond, ◌&&◌, eqb, ltb, leb, List, [], ◌∷◌, ◌++◌, map, length, get_or, take, drop, replicate, pos, Some, None, sym, refl, ap, ◌∙◌, ap₂, append_assoc, arith, length-append, length-take, Bor}
+use Rattle.std.proofs.Common.{◌≡◌, ℕ, zero, suc, ◌+◌, ◌-◌, ◌*◌, ◌%◌, ◌<◌, ◌≤◌, Bool, true, false, ◌&&◌, eqb, ltb, leb, List, [], ◌∷◌, ◌++◌, map, length, get_or, take, drop, pos, Some, None, sym, refl, ap, ◌∙◌, ap₂, append_assoc, arith, length-append, length-take, Bor}
 use Rattle.std.specs.List.{range_with_len, prefix_len, AllByRecursion as All}
 use Rattle.std.proofs.lemmas.List.{take_at, drop_at, drop-drop, length-replicate, get_or_append_left, get_or-append_right, get_or-map, length-map, same_lists, take_more, map-append, append-nil, take_all}
 use Rattle.std.proofs.lemmas.List.Sums.{prefix_len-drop_yes, prefix_len-drop_no, prefix_len-drop_all}
 use Rattle.delay_file.proofs.Scans.{leading_below}
 use Rattle.std.proofs.ByRecursion.{All-append, All-get_or, All-from_get_or}
 use Rattle.std.proofs.lemmas.List.FromFn.{length-map-range_with_len, get_or-map-range_with_len}
-use Rattle.std.proofs.lemmas.Bool.{and_parts, and_from, and_left, and_right, eqb-true, eq-eqb, leb-true, ltb-true, le-leb, ne_eqb}
+use Rattle.std.proofs.lemmas.Bool.{and_parts, and_left, and_right, eq-eqb, leb-true, ltb-true, le-leb, ne_eqb}
 use Rattle.timing.specs.declared.pair.Pair.{Pair}
-use Rattle.delay_file.specs.Bytes.{bytes_of, every, graphic}
+use Rattle.delay_file.specs.Bytes.{every, graphic}
 use Rattle.delay_file.specs.declared.write_error.WriteError.{WriteError}
 use Rattle.delay_file.specs.declared.write_error.WriteError.TheVariants.{Refused, Memory}
 use Rattle.delay_file.specs.Writes.{Refuses, RefusesName, RefusesNames}

@@ -1,16 +1,16 @@
 -- What a verdict names as broken first is broken, and everything before it is kept.
-use Rattle.std.proofs.Common.{◌≡◌, ℕ, zero, suc, ◌+◌, ◌-◌, ◌<◌, ◌≤◌, Bool, true, false, cond, eqb, ◌⊎◌, List, [], ◌∷◌, length, get_or, take, ℤ, pos, negsuc, ◌+ℤ◌, ◌≤ℤ◌, sym, refl, ap, ◌∙◌, subst, inl, inr, ⊎_elim, arith}
+use Rattle.std.proofs.Common.{◌≡◌, ℕ, zero, suc, ◌+◌, ◌-◌, ◌<◌, ◌≤◌, Bool, true, false, cond, eqb, ◌⊎◌, List, [], ◌∷◌, length, get_or, take, ℤ, pos, negsuc, ◌+ℤ◌, sym, refl, ap, ◌∙◌, subst, inl, inr, ⊎_elim, arith}
 use Rattle.std.specs.List.{range_with_len, AllByRecursion as All}
 use Rattle.std.proofs.lemmas.Int.{ints}
 use Rattle.std.proofs.lemmas.Bool.{cond_both, eqb-true, eqb-false}
-use Rattle.timing.specs.Delays.{Setup, Hold, setup_slack, hold_slack}
-use Rattle.timing.specs.Meaning.{Entry, pair, faulty, Meaning, entry_at}
-use Rattle.timing.specs.Plans.{Met, PinKept}
+use Rattle.timing.specs.Delays.{Setup, setup_slack, hold_slack}
+use Rattle.timing.specs.Meaning.{Entry, pair, faulty, Meaning}
+use Rattle.timing.specs.Plans.{Met}
 use Rattle.timing.specs.Slacks.{excess}
 use Rattle.timing.specs.declared.pair.Pair.{Pair}
 use Rattle.timing.specs.declared.refusal.Part.{Part}
 use Rattle.timing.specs.declared.refusal.Part.TheVariants as part
-use Rattle.plan_file.specs.Drafts.{Verdict, kept, broken, by_excess, entries_from, pins_from, pin_met, verdict, time_of}
+use Rattle.plan_file.specs.Drafts.{Verdict, broken, by_excess, entries_from, pins_from, pin_met, verdict, time_of}
 use Rattle.timing.specs.Plans.{domains_of}
 use Rattle.plan_file.specs.Laws.{IsPair, FirstBroken}
 use Rattle.plan_file.proofs.Legal.{KeptAt, pin_kept_from, pin_kept_to, no_excess, setup_from, hold_from}

@@ -1,5 +1,5 @@
 -- Check passes a draft exactly when the plan is legal.
-use Rattle.std.proofs.Common.{◌≡◌, ℕ, zero, suc, ◌+◌, ◌-◌, ◌<◌, ◌≤◌, Bool, true, false, cond, ◌&&◌, eqb, leb, List, [], ◌∷◌, length, get_or, ℤ, pos, negsuc, ◌≤ℤ◌, None, sym, refl, ap, ◌∙◌, subst, arith}
+use Rattle.std.proofs.Common.{◌≡◌, ℕ, zero, suc, ◌+◌, ◌-◌, ◌<◌, ◌≤◌, Bool, true, false, cond, ◌&&◌, eqb, leb, List, [], ◌∷◌, length, get_or, ℤ, pos, negsuc, ◌≤ℤ◌, None, sym, refl, ◌∙◌, subst, arith}
 use Rattle.std.specs.List.{range_with_len, AllByRecursion as All}
 use Rattle.std.proofs.lemmas.List.FromFn.{length-range_with_len, get_or-range_with_len}
 use Rattle.std.proofs.ByRecursion.{All-get_or, All-from_get_or}
@@ -10,7 +10,7 @@ use Rattle.timing.proofs.Rows.{passed, none_faulty as no_fault}
 use Rattle.timing.specs.Bounds.{Period, Offset}
 use Rattle.timing.specs.Delays.{Setup, Hold, setup_slack, hold_slack}
 use Rattle.timing.specs.Meaning.{Entry, pair, faulty, Meaning}
-use Rattle.timing.specs.Outcomes.{Outcome, granted, refused, period_within, offset_within, few_entries, first_faulty}
+use Rattle.timing.specs.Outcomes.{granted, refused, period_within, offset_within, few_entries, first_faulty}
 use Rattle.timing.specs.Plans.{Met, PinKept, Legal}
 use Rattle.timing.specs.Slacks.{excess}
 use Rattle.timing.specs.declared.domain.Domain.{Domain}
@@ -18,7 +18,6 @@ use Rattle.timing.specs.declared.domain.Domain.TheVariants.{Early, Late}
 use Rattle.timing.specs.declared.pair.Pair.{Pair}
 use Rattle.timing.specs.declared.refusal.Part.{Part}
 use Rattle.timing.specs.declared.refusal.Part.TheVariants as part
-use Rattle.timing.specs.Plans.{domain_of}
 use Rattle.plan_file.specs.Drafts.{Verdict, kept, broken, by_excess, entries_from, pins_from, pin_met, verdict, time_of, check_answer, told_verdict, long_enough}
 use Rattle.timing.specs.Plans.{domains_of}
 use Rattle.plan_file.specs.Laws.{IsPair, Ready}

@@ -1,7 +1,7 @@
 -- A refusal of a draft that is ready names the first broken limit.
-use Rattle.std.proofs.Common.{◌≡◌, ℕ, cond, eqb, List, [], ◌∷◌, sym, refl, ap, ◌∙◌, subst, arith}
+use Rattle.std.proofs.Common.{◌≡◌, ℕ, cond, eqb, List, [], ◌∷◌, sym, refl, ap, ◌∙◌, arith}
 use Rattle.timing.specs.Meaning.{Meaning}
-use Rattle.timing.specs.Outcomes.{Outcome, granted, refused}
+use Rattle.timing.specs.Outcomes.{Outcome, refused}
 use Rattle.timing.specs.Table.{part_number, refusal_number, refusal_values}
 use Rattle.timing.specs.declared.refusal.Part.{Part}
 use Rattle.timing.specs.declared.refusal.Part.TheVariants.{Ceiling, Pin, Setup, Hold}

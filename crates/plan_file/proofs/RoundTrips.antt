@@ -1,10 +1,10 @@
 -- A plan file has one spelling: what is written reads back, and what reads is, byte for byte, what is written.
-use Rattle.std.proofs.Common.{◌≡◌, ℕ, zero, suc, ◌+◌, ◌-◌, ◌*◌, ◌/◌, ◌%◌, ◌^◌, ◌<◌, ◌≤◌, min, Bool, true, false, cond, ◌&&◌, eqb, ltb, leb, List, [], ◌∷◌, ◌++◌, map, length, get_or, take, drop, Some, None, Ok, Err, Result, sym, refl, ap, ◌∙◌, subst, ap₂, one-add, arith, length-drop, length-take, pow_mono, w8, Fits}
+use Rattle.std.proofs.Common.{◌≡◌, ℕ, zero, suc, ◌+◌, ◌-◌, ◌*◌, ◌/◌, ◌%◌, ◌^◌, ◌<◌, ◌≤◌, min, Bool, true, false, cond, eqb, ltb, leb, List, [], ◌∷◌, ◌++◌, map, length, get_or, take, drop, Some, None, Ok, Err, Result, sym, refl, ap, ◌∙◌, subst, ap₂, one-add, arith, length-drop, length-take, pow_mono, w8, Fits}
 use lib.Count.{ones}
 use native.Mathlib.Nat.{div-eq_of_lt}
 use Rattle.std.specs.List.{range_with_len}
 use Rattle.timing.specs.declared.refusal.Refusal.{Refusal}
-use Rattle.std.proofs.lemmas.List.FromFn.{length-range_with_len, get_or-range_with_len, length-map-range_with_len, get_or-map-range_with_len}
+use Rattle.std.proofs.lemmas.List.FromFn.{get_or-range_with_len, length-map-range_with_len, get_or-map-range_with_len}
 use Rattle.std.proofs.lemmas.List.{take-append-drop, take_at, drop_at, drop-drop, get_or-take, get_or-drop, get_or_past, get_or_append_left}
 use Rattle.std.proofs.lemmas.Bool.{and_parts, and_from, and_left, eqb-true, eq-eqb, leb-true, le-leb, lt-leb, ltb-true, ltb-false, lt-ltb, le-ltb}
 use Rattle.timing.specs.Bounds.{Period, Offset, RegisterCount}
@@ -12,15 +12,14 @@ use Rattle.timing.specs.Outcomes.{period_within, offset_within}
 use Rattle.timing.specs.Plans.{domain_of, domains_of}
 use Rattle.timing.specs.declared.domain.Domain.TheVariants.{Early, Late}
 use Rattle.delay_file.specs.Bytes.{be32}
-use Rattle.delay_file.specs.Files.{joined, record_at, record_count}
-use Rattle.delay_file.proofs.Parts.{record_length}
+use Rattle.delay_file.specs.Files.{record_at, record_count}
 use Rattle.delay_file.proofs.Scans.{leading_below}
 use Rattle.delay_file.proofs.Spellings.{four}
 use Rattle.delay_file.proofs.Written.{count_joined, record_joined, run_is}
-use Rattle.plan_file.specs.PlanReading.{PlanReading, plan, refused, plan_reading, head_good, word_good, word_at, good_words, words_good, ones_in, domain_bit, laid_out, be64}
+use Rattle.plan_file.specs.PlanReading.{plan, refused, plan_reading, head_good, word_at, good_words, words_good, ones_in, domain_bit, laid_out, be64}
 use Rattle.plan_file.specs.PlanRead.{ReadsAs, head_of}
 use Rattle.plan_file.specs.declared.plan_reader.Head.{Head}
-use Rattle.plan_file.specs.PlanRecords.{plan_bytes, plan_records, plan_length, head_record, word_record, domain_word, word_count, late_at, late_number, bit, packed, count}
+use Rattle.plan_file.specs.PlanRecords.{plan_bytes, plan_records, plan_length, head_record, word_record, domain_word, word_count, late_at, late_number, bit, count}
 use Rattle.plan_file.specs.Written.{ReadsBack, Wrote}
 use Rattle.plan_file.proofs.Layouts.{eight_back, head_spelled, word_spelled, number_lt}
 use Rattle.plan_file.proofs.Packed.{packed_same, packed_own, own_bit, packed_lt, packed_below, ones_packed, bit_of_packed, count_append, count_past, count_le, count_none}

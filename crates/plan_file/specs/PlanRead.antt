@@ -1,5 +1,5 @@
 -- What the code reads of a plan file, and what it leaves in memory.
-use Rattle.std.specs.Prelude.{◌≡◌, ℕ, ◌+◌, ◌<◌, true, false, List, length, take, drop, Some, None, Ok, Err, Option, Result}
+use Rattle.std.specs.Prelude.{◌≡◌, ℕ, ◌+◌, ◌<◌, true, false, List, take, drop, Some, Ok, Err, Result}
 use Rattle.timing.specs.Plans.{domains_of}
 use Rattle.timing.specs.Table.{refusal_number}
 use Rattle.delay_file.specs.Bytes.{be32}

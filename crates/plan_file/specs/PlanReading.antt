@@ -1,5 +1,5 @@
 -- Reading a plan file: for every byte string, of any length and content, the plan that it holds or why it is refused.
-use Rattle.std.specs.Prelude.{◌≡◌, ℕ, zero, suc, ◌+◌, ◌-◌, ◌*◌, ◌/◌, ◌%◌, ◌^◌, Bool, cond, ◌&&◌, List, map, length, drop, Some, None, Option, ◌==◌, count_ones, nat_le, nat_lt, slice_index}
+use Rattle.std.specs.Prelude.{ℕ, zero, suc, ◌+◌, ◌-◌, ◌*◌, ◌/◌, ◌%◌, ◌^◌, Bool, cond, ◌&&◌, List, map, length, drop, Some, None, Option, ◌==◌, count_ones, nat_le, nat_lt, slice_index}
 use Rattle.std.specs.List.{range_with_len, prefix_len}
 use Rattle.timing.specs.Outcomes.{period_within, offset_within}
 use Rattle.delay_file.specs.Bytes.{be32, every, is_zero}

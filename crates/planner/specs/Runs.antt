@@ -3,8 +3,7 @@ use Rattle.std.specs.Prelude.{◌≡◌, ℕ, ◌<◌, List, [], ◌∷◌, ◌+
 use Rattle.std.specs.declared.alloc.AllocError.{AllocError}
 use Rattle.std.specs.declared.alloc.Global.{Global}
 use Rattle.timing.specs.Meaning.{answered, entry_at, pair}
-use Rattle.timing.specs.Outcomes.{Outcome, granted, refused, told}
-use Rattle.timing.specs.declared.domain.Domain.{Domain}
+use Rattle.timing.specs.Outcomes.{Outcome, told}
 use Rattle.timing.specs.declared.pair.Pair.{Pair}
 use Rattle.timing.specs.declared.refusal.Refusal.{Refusal}
 use Rattle.delay_file.specs.declared.fault.Fault.{Fault}

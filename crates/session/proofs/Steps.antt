@@ -1,5 +1,5 @@
 -- The steps of a load, entry by entry.
-use Rattle.std.proofs.Common.{◌≡◌, ℕ, ◌+◌, ◌-◌, ◌<◌, ◌≤◌, Bool, true, false, cond, ◌&&◌, eqb, ltb, ◌⊎◌, List, [], ◌∷◌, ◌++◌, length, get_or, take, drop, Some, None, Option, sym, refl, ap, ◌∙◌, subst, ap₂, inl, inr, arith}
+use Rattle.std.proofs.Common.{◌≡◌, ℕ, ◌+◌, ◌-◌, ◌<◌, ◌≤◌, Bool, true, false, cond, ◌&&◌, eqb, ltb, List, ◌∷◌, length, get_or, take, drop, Some, None, Option, sym, refl, ap, ◌∙◌, subst, ap₂, inl, inr, arith}
 use Rattle.std.proofs.lemmas.List.{at_drop_all, take_more}
 use Rattle.std.proofs.lemmas.Bool.{lt-ltb}
 use Rattle.timing.proofs.Judging.{judged_same}
@@ -20,7 +20,7 @@ use Rattle.delay_file.specs.declared.view.FileView.{FileView}
 use Rattle.session.specs.Book.{Book, add_answer, added}
 use Rattle.session.specs.Loads.{Loading, taken, stopped, by_add, given_pairs, load_entries, plus}
 use Rattle.session.specs.Orders.{KnownOrder, OrderedWith, with_first}
-use Rattle.session.specs.Pairs.{Before, Rises}
+use Rattle.session.specs.Pairs.{Before}
 use Rattle.session.specs.declared.order.Order.{Order}
 use Rattle.session.specs.declared.order.Order.TheVariants.{Nothing, RisesTo, Mixed}
 use Rattle.session.proofs.Look.{rises_more}

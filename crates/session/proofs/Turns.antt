@@ -1,18 +1,18 @@
 -- The turns of a load: the pairs of a file before a place, and what add would answer to the next.
-use Rattle.std.proofs.Common.{◌≡◌, ℕ, zero, suc, ◌+◌, ◌-◌, ◌<◌, ◌≤◌, min, Bool, true, false, cond, not, ◌||◌, eqb, leb, ◌⊎◌, List, [], ◌∷◌, ◌++◌, map, length, get_or, take, drop, is_some, Some, None, MatchBool, Option, sym, refl, ap, ◌∙◌, subst, ap₂, inl, inr, arith}
+use Rattle.std.proofs.Common.{◌≡◌, ℕ, ◌+◌, ◌-◌, ◌<◌, ◌≤◌, min, Bool, true, false, cond, ◌||◌, leb, ◌⊎◌, List, [], ◌∷◌, ◌++◌, length, get_or, take, is_some, MatchBool, Option, sym, refl, ap, ◌∙◌, ap₂, inl, inr, arith}
 use Rattle.std.proofs.lemmas.List.FromFn.{length-map-range_with_len, get_or-map-range_with_len}
-use Rattle.std.proofs.lemmas.List.{get_or_default, length-take-le, take_more}
+use Rattle.std.proofs.lemmas.List.{length-take-le}
 use Rattle.std.proofs.lemmas.Bool.{both_ways, cases_Bool, cases_lt, le-leb, lt-leb}
-use Rattle.timing.specs.Meaning.{Entry, pair, judged}
-use Rattle.timing.specs.Outcomes.{Outcome, granted, refused}
+use Rattle.timing.specs.Meaning.{pair, judged}
+use Rattle.timing.specs.Outcomes.{granted, refused}
 use Rattle.timing.specs.declared.pair.Pair.{Pair}
 use Rattle.delay_file.specs.Files.{JoinsAt, record_at, record_count, view_registers}
 use Rattle.delay_file.specs.Records.{pair_fields}
 use Rattle.delay_file.specs.declared.view.FileView.{FileView}
 use Rattle.session.specs.Book.{Book, add_answer, added, has, full}
 use Rattle.session.specs.Loads.{given_pairs, plus}
-use Rattle.session.specs.Orders.{KnownOrder, with_first}
-use Rattle.session.specs.Pairs.{find, joins, Rises}
+use Rattle.session.specs.Orders.{KnownOrder}
+use Rattle.session.specs.Pairs.{find, joins}
 use Rattle.session.specs.declared.order.Order.TheVariants.{RisesTo}
 use Rattle.session.proofs.Look.{Missing, joins_keys, keys_join, look, missing_none, rises_none}
 

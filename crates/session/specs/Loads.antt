@@ -1,6 +1,6 @@
 -- Loading a delay file into a session: every pair in the file's order, or none.
-use Rattle.std.specs.Prelude.{◌≡◌, ℕ, ◌+◌, ◌-◌, Bool, cond, List, [], ◌∷◌, map, Some, None, Ok, Err, Option, Result, ◌==◌}
-use Rattle.timing.specs.Meaning.{Entry, pair, faulty, Meaning}
+use Rattle.std.specs.Prelude.{ℕ, ◌+◌, ◌-◌, cond, List, [], ◌∷◌, map, Some, None, Ok, Err, Option, Result, ◌==◌}
+use Rattle.timing.specs.Meaning.{Entry, pair, faulty}
 use Rattle.timing.specs.Outcomes.{Outcome, granted, refused}
 use Rattle.timing.specs.Table.{refusal_number}
 use Rattle.timing.specs.declared.pair.Pair.{Pair}

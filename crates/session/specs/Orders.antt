@@ -1,5 +1,5 @@
 -- What a load finds on its way through a file: the order of the pairs so far, and what each entry comes to.
-use Rattle.std.specs.Prelude.{◌≡◌, ℕ, ◌+◌, ◌-◌, ◌<◌, Bool, true, ◌⊎◌, List, [], ◌∷◌, take, Ok, Err, Result, slice_index_or}
+use Rattle.std.specs.Prelude.{◌≡◌, ℕ, ◌+◌, ◌-◌, ◌<◌, ◌⊎◌, List, ◌∷◌, take, Ok, Err, Result, slice_index_or}
 use Rattle.timing.specs.Meaning.{Entry, pair, entry_at}
 use Rattle.timing.specs.Outcomes.{granted}
 use Rattle.timing.specs.Table.{refusal_number}

@@ -1,6 +1,6 @@
 -- What the definitions yield for a small circuit.
 use Rattle.std.specs.Prelude.{ℕ, List, map, take, ℤ, pos, slice_index_or}
-use Rattle.timing.specs.Meaning.{Entry, pair, Meaning}
+use Rattle.timing.specs.Meaning.{pair, Meaning}
 use Rattle.timing.specs.Plans.{Legal, Least, NoPlan as NoPlanIsLegal, domains_of}
 use Rattle.timing.specs.Times.{Greatest, LeastFree, NoTimes as NoTimesAreLegal}
 use Rattle.small_circuits.specs.declared.circuit.SmallCircuit.{SmallCircuit}

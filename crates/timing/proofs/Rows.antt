@@ -1,6 +1,6 @@
 -- Rows of checks: what it says that all were passed.
 use Rattle.std.proofs.Common.{◌≡◌, ℕ, Bool, true, false, Some, None, Option, refl, arith}
-use Rattle.timing.specs.Outcomes.{Outcome, granted, refused, unless, unless_faulty}
+use Rattle.timing.specs.Outcomes.{Outcome, granted, unless, unless_faulty}
 
 pub passed : {A : Type 0} (b : Bool) (k : ℕ) (a : A) (rest : Outcome A) → granted a ≡ unless b k rest → (b ≡ true) × (granted a ≡ rest)
 passed true k a rest e = (refl, e)

@@ -1,5 +1,5 @@
 -- The limits of the subject's numbers. Times are whole picoseconds.
-use Rattle.std.specs.Prelude.{ℕ, ◌≤◌, Bool, ◌&&◌, ℤ, pos, negsuc, ◌≤ℤ◌, int_le}
+use Rattle.std.specs.Prelude.{ℕ, ◌≤◌, Bool, ◌&&◌, ℤ, pos, negsuc, int_le}
 
 -- a register count: 1 to 4,096
 abbrev pub RegisterCount : ℕ → Type 0

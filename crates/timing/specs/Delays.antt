@@ -1,6 +1,5 @@
 -- Pairs of registers and the two limits that a pair puts on clock times.
-use Rattle.std.specs.Prelude.{ℕ, ◌<◌, Bool, ◌&&◌, ◌||◌, leb, ℤ, pos, ◌-ℤ◌, ◌≤ℤ◌}
-use Rattle.std.specs.Int.Signed.{le_z}
+use Rattle.std.specs.Prelude.{ℕ, ◌<◌, ℤ, pos, ◌-ℤ◌, ◌≤ℤ◌}
 use Rattle.std.specs.Int.{int_min}
 use Rattle.timing.specs.declared.pair.Pair.{Pair}
 use Rattle.timing.specs.Bounds.{least_delay, greatest_delay}

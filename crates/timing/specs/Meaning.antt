@@ -1,5 +1,5 @@
 -- What a source of delays means: how many registers there are, and a list of entries.
-use Rattle.std.specs.Prelude.{ℕ, Bool, cond, ◌&&◌, ◌||◌, List, Ok, Err, Result, int_le, nat_le, slice_index_or}
+use Rattle.std.specs.Prelude.{ℕ, cond, ◌&&◌, ◌||◌, List, Ok, Err, Result, int_le, nat_le, slice_index_or}
 use Rattle.std.specs.List.{AllByRecursion as All}
 use Rattle.timing.specs.declared.pair.Pair.{Pair}
 use Rattle.timing.specs.declared.refusal.Refusal.{Refusal}

@@ -1,4 +1,4 @@
-use Rattle.std.proofs.Common.{sym, ◌∙◌, arith}
+use Rattle.std.proofs.Common.{arith}
 use Rattle.clockplan.proofs.Empty.{empty_no_plan}
 use Rattle.clockplan.proofs.show_plan.is_plan.Goals as goal
 

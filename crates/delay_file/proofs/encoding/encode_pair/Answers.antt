@@ -1,8 +1,6 @@
-use Rattle.std.proofs.Common.{◌≡◌, sym, refl, ap, ◌∙◌, arith, w32, SFits, rules}
+use Rattle.std.proofs.Common.{◌≡◌, refl, ap, ◌∙◌, w32, SFits, rules}
 use Rattle.std.proofs.lemmas.Int.{to_z-of_z}
-use Rattle.timing.specs.declared.pair.Pair.{Pair}
 use Rattle.delay_file.specs.Bytes.{bytes_of, bytes_of_z}
-use Rattle.delay_file.specs.Records.{pair_bytes, reading, delay}
 use Rattle.delay_file.proofs.Spellings.{pair_reads_back}
 use Rattle.delay_file.proofs.encoding.encode_pair.Goals as goal
 

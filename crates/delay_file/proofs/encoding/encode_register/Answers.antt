@@ -1,4 +1,4 @@
-use Rattle.std.proofs.Common.{◌≡◌, ℕ, ◌+◌, ◌-◌, true, length, sym, refl, ◌∙◌, arith, rules}
+use Rattle.std.proofs.Common.{◌≡◌, ℕ, ◌+◌, ◌-◌, true, length, sym, ◌∙◌, arith, rules}
 use Rattle.std.proofs.lemmas.List.{drop-replicate}
 use Rattle.delay_file.specs.Bytes.{bytes_of}
 use Rattle.delay_file.specs.Records.{lawful_name}

@@ -1,4 +1,4 @@
-use Rattle.std.proofs.Common.{◌≡◌, sym, ◌∙◌, arith}
+use Rattle.std.proofs.Common.{sym, ◌∙◌, arith}
 use Rattle.std.proofs.lemmas.Bool.Decides.{nat_tests}
 use Rattle.delay_file.specs.Bytes.{is_zero}
 use Rattle.delay_file.proofs.Scans.{every_drop_yes, every_drop_no, every_drop_all}

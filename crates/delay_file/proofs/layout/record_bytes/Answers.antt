@@ -1,4 +1,4 @@
-use Rattle.std.proofs.Common.{◌≡◌, length, ap, ◌∙◌, arith, rules}
+use Rattle.std.proofs.Common.{length, ap, ◌∙◌, arith, rules}
 use Rattle.delay_file.proofs.Parts.{part_is, record_length}
 use Rattle.delay_file.proofs.layout.record_bytes.Goals as goal
 

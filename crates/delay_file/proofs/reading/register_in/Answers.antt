@@ -1,9 +1,9 @@
-use Rattle.std.proofs.Common.{◌≡◌, ℕ, Bool, true, false, ◌&&◌, List, take, drop, sym, refl, ap, ◌∙◌}
+use Rattle.std.proofs.Common.{◌≡◌, drop, sym, ap, ◌∙◌}
 use native.Mathlib.Nat.{sub-zero}
 use Rattle.std.proofs.lemmas.List.{take_rest}
 use Rattle.std.specs.List.{prefix_len}
 use Rattle.delay_file.specs.Bytes.{every, is_zero, not_zero}
-use Rattle.delay_file.specs.Records.{fault_seen, lawful_name, name_in}
+use Rattle.delay_file.specs.Records.{fault_seen}
 use Rattle.delay_file.proofs.Scans.{cut_rest}
 use Rattle.delay_file.proofs.reading.register_in.Goals as goal
 use Rattle.delay_file.proofs.reading.register_in.Goals.{then-not-is_lawful_name-via-then-not-is_lawful_name, then-not-is_lawful_name-via-else-not-is_lawful_name+then-not-all_zero}

@@ -1,4 +1,4 @@
-use Rattle.std.proofs.Common.{◌≡◌, ℕ, ◌+◌, Bool, sym, ◌∙◌, arith}
+use Rattle.std.proofs.Common.{ℕ, ◌+◌, Bool, sym, ◌∙◌, arith}
 use Rattle.plan_file.specs.PlanRecords.{late_at}
 use Rattle.plan_file.proofs.Packed.{set_bit, skip_bit, packed_all, packed_none}
 use Rattle.plan_file.proofs.domain_word.domain_word.Goals as goal

@@ -1,4 +1,4 @@
-use Rattle.std.proofs.Common.{◌≡◌, ℕ, Bool, sym, ap, ◌∙◌, arith}
+use Rattle.std.proofs.Common.{ℕ, Bool, sym, ◌∙◌, arith}
 use Rattle.plan_file.specs.PlanRecords.{late_at}
 use Rattle.plan_file.proofs.Packed.{count_yes, count_no, count_none}
 use Rattle.plan_file.proofs.domain_word.late_number.Goals as goal

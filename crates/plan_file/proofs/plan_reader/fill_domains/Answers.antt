@@ -1,4 +1,4 @@
-use Rattle.std.proofs.Common.{◌≡◌, ◌/◌, ◌%◌, ◌^◌, ap, ◌∙◌, arith}
+use Rattle.std.proofs.Common.{◌/◌, ◌%◌, ◌^◌, ap, ◌∙◌, arith}
 use Rattle.plan_file.specs.PlanReading.{be64, domain_bit}
 use Rattle.plan_file.proofs.Words.{filled_more}
 use Rattle.plan_file.proofs.plan_reader.fill_domains.Goals as goal

@@ -1,4 +1,4 @@
-use Rattle.std.proofs.Common.{◌≡◌, sym, ◌∙◌, arith}
+use Rattle.std.proofs.Common.{sym, ◌∙◌, arith}
 use Rattle.std.proofs.lemmas.Bool.{le-leb}
 use Rattle.plan_file.proofs.Layouts.{below_more_bits, no_bits_from}
 use Rattle.plan_file.proofs.plan_reader.is_below_bit.Goals as goal

@@ -1,4 +1,4 @@
-use Rattle.std.proofs.Common.{◌≡◌, ap, ◌∙◌, arith}
+use Rattle.std.proofs.Common.{ap, ◌∙◌, arith}
 use Rattle.std.proofs.lemmas.List.{take_rest}
 use Rattle.delay_file.specs.Bytes.{every, is_zero}
 use Rattle.plan_file.proofs.Layouts.{laid_by_rest}

@@ -1,4 +1,4 @@
-use Rattle.std.proofs.Common.{◌≡◌, ◌+◌, ◌*◌, Some, sym, refl, ap, ◌∙◌, arith, rules}
+use Rattle.std.proofs.Common.{◌+◌, ◌*◌, Some, sym, ap, ◌∙◌, arith, rules}
 use lib.Count.{ones, ones-le}
 use Rattle.timing.specs.Table.{refusal_number}
 use Rattle.plan_file.specs.PlanReading.{refused, word_good, be64, ones_in}

@@ -1,4 +1,4 @@
-use Rattle.std.proofs.Common.{◌≡◌, length, sym, refl, ap, ◌∙◌, arith}
+use Rattle.std.proofs.Common.{length, sym, refl, ap, ◌∙◌}
 use Rattle.timing.specs.Table.{refusal_number}
 use Rattle.plan_file.specs.PlanReading.{refused}
 use Rattle.plan_file.proofs.RoundTrips.{found, room_for_words, read_short, read_granted, read_rest, read_spelled}

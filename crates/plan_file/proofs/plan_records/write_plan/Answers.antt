@@ -1,5 +1,5 @@
-use Rattle.std.proofs.Common.{◌≡◌, sym, refl, ap, ◌∙◌, ap₂, arith}
-use Rattle.plan_file.specs.PlanRecords.{head_record, word_record, word_count}
+use Rattle.std.proofs.Common.{ap, ◌∙◌, arith}
+use Rattle.plan_file.specs.PlanRecords.{head_record, word_record}
 use Rattle.plan_file.proofs.Writing.{headed, started, one_word, ended}
 use Rattle.plan_file.proofs.plan_records.write_plan.Goals as goal
 

@@ -1,4 +1,4 @@
-use Rattle.std.proofs.Common.{◌≡◌, ◌≤◌, length, get_or, sym, refl, arith}
+use Rattle.std.proofs.Common.{◌≤◌, length, get_or, sym, refl, arith}
 use Rattle.session.specs.Book.{book}
 use Rattle.session.proofs.Books.{add_present}
 use Rattle.session.proofs.Look.{found_is}

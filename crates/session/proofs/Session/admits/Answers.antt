@@ -1,9 +1,8 @@
-use Rattle.std.proofs.Common.{◌≡◌, ◌+◌, ◌<◌, length, drop, refl, ap, ◌∙◌, arith}
+use Rattle.std.proofs.Common.{◌+◌, ◌<◌, length, refl, ◌∙◌, arith}
 use Rattle.std.proofs.lemmas.Result.{err_from_is_err_and}
 use Rattle.delay_file.proofs.Entries.{entry_count_is}
-use Rattle.delay_file.specs.Files.{view_meaning, view_registers}
 use Rattle.session.specs.Book.{book}
-use Rattle.session.specs.Loads.{given_pairs, load_entries}
+use Rattle.session.specs.Loads.{given_pairs}
 use Rattle.session.specs.Orders.{with_first}
 use Rattle.session.proofs.Steps.{first_more, load_on, load_stop, load_end, load_start}
 use Rattle.session.proofs.Turns.{given_length}

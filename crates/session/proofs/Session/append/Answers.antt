@@ -1,9 +1,9 @@
-use Rattle.std.proofs.Common.{◌≡◌, ◌<◌, length, sym, ap, ◌∙◌, arith}
+use Rattle.std.proofs.Common.{◌<◌, length, sym, ap, ◌∙◌, arith}
 use Rattle.delay_file.proofs.Entries.{entry_count_is}
 use Rattle.session.specs.Book.{book}
 use Rattle.session.specs.Loads.{given_pairs}
 use Rattle.session.specs.declared.Session.{Session}
-use Rattle.session.proofs.Steps.{entry_read, load_on, load_end, load_start, takes_next, never_faulty}
+use Rattle.session.proofs.Steps.{entry_read, load_on, load_end, takes_next, never_faulty}
 use Rattle.session.proofs.Turns.{given_length}
 use Rattle.session.proofs.Session.append.Goals as goal
 use Rattle.session.proofs.Session.append.Goals.{in-Ok, in_default}

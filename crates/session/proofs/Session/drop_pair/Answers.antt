@@ -1,4 +1,4 @@
-use Rattle.std.proofs.Common.{◌≡◌, ◌-◌, ◌<◌, ◌≤◌, length, get_or, sym, refl, subst, arith}
+use Rattle.std.proofs.Common.{◌-◌, ◌<◌, ◌≤◌, length, get_or, sym, refl, subst, arith}
 use Rattle.session.specs.Book.{book}
 use Rattle.session.specs.Pairs.{KeepsLimits}
 use Rattle.session.proofs.Books.{same_book, drop_taken}

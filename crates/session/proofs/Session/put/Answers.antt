@@ -1,4 +1,4 @@
-use Rattle.std.proofs.Common.{◌≡◌, ◌<◌, length, refl, arith}
+use Rattle.std.proofs.Common.{◌<◌, length, refl, arith}
 use Rattle.session.specs.Book.{book}
 use Rattle.session.proofs.Books.{same_book, addable}
 use Rattle.session.proofs.Look.{find_added, apart_added, lawful_wrote, none_missing}

@@ -1,4 +1,4 @@
-use Rattle.std.proofs.Common.{◌≡◌, ◌<◌, ◌≤◌, length, get_or, sym, refl, arith}
+use Rattle.std.proofs.Common.{◌<◌, ◌≤◌, length, get_or, sym, refl, arith}
 use Rattle.session.specs.Book.{book}
 use Rattle.session.proofs.Books.{same_book, kept_limits, retime_taken}
 use Rattle.session.proofs.Look.{found_is, find_replaced, apart_replaced, lawful_wrote}

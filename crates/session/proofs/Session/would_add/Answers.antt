@@ -1,4 +1,4 @@
-use Rattle.std.proofs.Common.{◌≡◌, ◌-◌, ◌≤◌, min, true, false, length, get_or, is_some, Option, sym, refl, ap, ◌∙◌, arith}
+use Rattle.std.proofs.Common.{◌-◌, ◌≤◌, min, true, false, length, is_some, Option, sym, refl, ap, ◌∙◌, arith}
 use Rattle.timing.specs.declared.pair.Pair.{Pair}
 use Rattle.session.specs.Book.{book}
 use Rattle.session.specs.Loads.{given_pairs}

@@ -1,4 +1,4 @@
-use Rattle.std.proofs.Common.{ℕ, [], ◌∷◌, ℤ, pos, negsuc, ◌≤ℤ◌, refl, arith}
+use Rattle.std.proofs.Common.{[], ◌∷◌, pos, negsuc, ◌≤ℤ◌, arith}
 use Rattle.std.proofs.lemmas.Int.{ints}
 use Rattle.timing.specs.Plans.{domains_of}
 use Rattle.small_circuits.specs.Yields.{times_of}

@@ -1,6 +1,5 @@
-use Rattle.std.proofs.Common.{ℕ, [], ◌∷◌, ℤ, pos, negsuc, ◌≤ℤ◌, refl, arith}
+use Rattle.std.proofs.Common.{[], ◌∷◌, pos, negsuc, ◌≤ℤ◌, arith}
 use Rattle.std.proofs.lemmas.Int.{ints}
-use Rattle.timing.specs.Plans.{domains_of}
 use Rattle.small_circuits.specs.Yields.{times_of}
 use Rattle.small_circuits.proofs.Small.{below_3, circuit, path, slow_chain, slow_chain_times, times_yield}
 use Rattle.small_circuits.proofs.list.negative_hold_twice.Goals as goal

@@ -1,4 +1,4 @@
-use Rattle.std.proofs.Common.{◌≡◌, ◌<◌, sym, ◌∙◌, arith}
+use Rattle.std.proofs.Common.{sym, ◌∙◌, arith}
 use Rattle.delay_file.proofs.Entries.{field_there, none_joins}
 use Rattle.delay_file.proofs.view.FileView.joins_before.Goals as goal
 use Rattle.delay_file.proofs.view.FileView.joins_before.Goals.{else-word_at-launch-via-then-word_at-launch+else-word_at-capture, else-word_at-launch-via-else-word_at-launch}

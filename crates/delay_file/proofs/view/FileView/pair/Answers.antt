@@ -1,5 +1,5 @@
-use Rattle.std.proofs.Common.{◌≡◌, ◌+◌, sym, ap, ◌∙◌, ap₂, arith}
-use Rattle.delay_file.specs.Files.{entry_of, located, view_registers, record_at}
+use Rattle.std.proofs.Common.{◌+◌, sym, ap, ◌∙◌, arith}
+use Rattle.delay_file.specs.Files.{entry_of, located, record_at}
 use Rattle.delay_file.specs.Records.{fault_seen, reading}
 use Rattle.delay_file.proofs.Entries.{answer_past, answer_there}
 use Rattle.delay_file.proofs.view.FileView.pair.Goals as goal

@@ -1,4 +1,4 @@
-use Rattle.std.proofs.Common.{ℕ, ◌+◌, Bool}
+use Rattle.std.proofs.Common.{ℕ, ◌+◌}
 use Rattle.plan_file.specs.PlanRecords.{late_at}
 use Rattle.plan_file.proofs.Packed.{bit_of_packed, ones_packed}
 use Rattle.plan_file.proofs.RoundTrips.{written_reads_back}
