@@ -10,7 +10,7 @@ mod pack;
 mod problem;
 mod refused;
 mod report;
-mod session;
+mod script;
 mod show;
 mod show_plan;
 mod shown;
@@ -60,7 +60,7 @@ fn perform(rt: &HostRuntime, words: &[String]) -> anyhow::Result<Outcome> {
         Command::Check { paths, options } => check::check(rt, paths, options),
         Command::Slack { paths, options } => slack::slack(rt, paths, options),
         Command::Report { paths } => report::report(rt, paths),
-        Command::Session { script } => session::session(rt, script),
+        Command::Session { script } => script::session(rt, script),
         Command::Help => {
             rt.print(USAGE)?;
             Ok(Outcome::Granted)

@@ -1,6 +1,6 @@
 -- The entries of a view: the records behind its registers.
 use Rattle.std.proofs.Common.{◌≡◌, ℕ, ◌+◌, ◌-◌, ◌*◌, ◌<◌, ◌≤◌, Bool, true, false, ltb, List, [], ◌∷◌, length, None, Option, sym, refl, ap, ◌∙◌, subst, inl, inr, arith}
-use Rattle.std.specs.List.{range_with_len, AllByRecursion as All}
+use Rattle.std.specs.List.{range_with_len, AllByRecursion}
 use Rattle.std.proofs.lemmas.List.FromFn.{length-map-range_with_len, get_or-map-range_with_len}
 use Rattle.std.proofs.lemmas.List.{get_or_past}
 use Rattle.std.proofs.ByRecursion.{All-get_or, All-map}
@@ -46,7 +46,7 @@ lawful_entry_of n (register number name) = tt
 lawful_entry_of n (delay p) = lawful_judged n p
 lawful_entry_of n (refused number at) = tt
 
-all_lawful : (n : ℕ) (f : ℕ → Reading) (ks : List ℕ) → All (λ k. LawfulEntry n (entry_of n (f k))) ks
+all_lawful : (n : ℕ) (f : ℕ → Reading) (ks : List ℕ) → AllByRecursion (λ k. LawfulEntry n (entry_of n (f k))) ks
 all_lawful n f [] = tt
 all_lawful n f (k ∷ ks) = (lawful_entry_of n (f k), all_lawful n f ks)
 

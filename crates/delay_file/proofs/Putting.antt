@@ -1,7 +1,7 @@
 -- Records put one behind the other into memory.
 use Rattle.std.proofs.Common.{◌≡◌, ℕ, ◌+◌, ◌-◌, ◌*◌, ◌<◌, ◌≤◌, List, [], ◌++◌, length, get_or, take, drop, sym, ap, ◌∙◌, ap₂, append_assoc, arith}
 use borrow.Rule.Slice.PartMut.{put_mid}
-use Rattle.std.specs.List.{AllByRecursion as All}
+use Rattle.std.specs.List.{AllByRecursion}
 use Rattle.std.proofs.ByRecursion.{All-take}
 use Rattle.std.proofs.lemmas.List.{take_at, drop_at, drop-drop, take_more, length-take-le}
 use Rattle.delay_file.specs.Files.{joined}
@@ -13,7 +13,7 @@ put_is xs ys zs a e =
     let k : a + 32 - a ≡ 32 = omega arith in
     ap₂ (λ n y. take a xs ++ (y ++ drop n (drop a xs))) k e ∙ ap (λ l. take a xs ++ (zs ++ l)) (drop-drop 32 a xs)
 
-module _ (R : List (List ℕ)) (whole : All Whole R) (was : List ℕ) where
+module _ (R : List (List ℕ)) (whole : AllByRecursion Whole R) (was : List ℕ) where
   front_length : (k : ℕ) → k ≤ length R → length (joined (take k R)) ≡ k * 32
   front_length k h = length_joined (take k R) (All-take Whole k R whole) ∙ ap (λ n. n * 32) (length-take-le k R h)
 

@@ -1,6 +1,6 @@
 -- A written file opens as what it was made of.
 use Rattle.std.proofs.Common.{◌≡◌, ℕ, zero, suc, ◌+◌, ◌-◌, ◌*◌, ◌%◌, ◌<◌, ◌≤◌, Bool, true, false, ◌&&◌, eqb, ltb, leb, List, [], ◌∷◌, ◌++◌, map, length, get_or, take, drop, pos, Some, None, sym, refl, ap, ◌∙◌, ap₂, append_assoc, arith, length-append, length-take, Bor}
-use Rattle.std.specs.List.{range_with_len, prefix_len, AllByRecursion as All}
+use Rattle.std.specs.List.{range_with_len, prefix_len, AllByRecursion}
 use Rattle.std.proofs.lemmas.List.{take_at, drop_at, drop-drop, length-replicate, get_or_append_left, get_or-append_right, get_or-map, length-map, same_lists, take_more, map-append, append-nil, take_all}
 use Rattle.std.proofs.lemmas.List.Sums.{prefix_len-drop_yes, prefix_len-drop_no, prefix_len-drop_all}
 use Rattle.delay_file.proofs.Scans.{leading_below}
@@ -22,15 +22,15 @@ use Rattle.delay_file.proofs.Spellings.{register_reads_back}
 abbrev pub Whole : List ℕ → Type 0
 Whole x = length x ≡ 32
 
-pub length_joined : (xs : List (List ℕ)) → All Whole xs → length (joined xs) ≡ length xs * 32
+pub length_joined : (xs : List (List ℕ)) → AllByRecursion Whole xs → length (joined xs) ≡ length xs * 32
 length_joined [] h = refl
 length_joined (x ∷ xs) h = let e = length_joined xs h.1 in let f = h.0 in length-append x (joined xs) ∙ omega arith
 
-pub count_joined : (xs : List (List ℕ)) → All Whole xs → record_count (joined xs) ≡ length xs
+pub count_joined : (xs : List (List ℕ)) → AllByRecursion Whole xs → record_count (joined xs) ≡ length xs
 count_joined xs h = let e = length_joined xs h in omega arith
 
 -- the record at a place is the one that was put there
-pub record_joined : (xs : List (List ℕ)) (k : ℕ) → All Whole xs → k < length xs → record_at (joined xs) k ≡ get_or xs k []
+pub record_joined : (xs : List (List ℕ)) (k : ℕ) → AllByRecursion Whole xs → k < length xs → record_at (joined xs) k ≡ get_or xs k []
 record_joined [] k h l = absurd (omega arith)
 record_joined (x ∷ xs) zero h l = take_at x (joined xs) 32 h.0
 record_joined (x ∷ xs) (suc k) h l =
@@ -45,11 +45,11 @@ register_whole k name h =
     let b = leb-true _ _ (and_parts (leb (length name) 24) (every graphic name) a.1).0 in
     simp (length-append, length-replicate) (omega arith)
 
-registers_whole : (k : ℕ) (names : List (List ℕ)) → All (λ name. lawful_name name ≡ true) names → All Whole (register_records k names)
+registers_whole : (k : ℕ) (names : List (List ℕ)) → AllByRecursion (λ name. lawful_name name ≡ true) names → AllByRecursion Whole (register_records k names)
 registers_whole k [] h = tt
 registers_whole k (name ∷ names) h = (register_whole k name h.0, registers_whole (k + 1) names h.1)
 
-pub pairs_whole : (pairs : List Pair) → All Whole (map pair_bytes pairs)
+pub pairs_whole : (pairs : List Pair) → AllByRecursion Whole (map pair_bytes pairs)
 pairs_whole [] = tt
 pairs_whole (p ∷ pairs) = (refl, pairs_whole pairs)
 
@@ -76,8 +76,8 @@ run_is P a (suc n) (suc m) f g h =
 no_pair : Pair
 no_pair = record { launch = 0; capture = 0; min = pos 0; max = pos 0 }
 
-module _ (names : List (List ℕ)) (pairs : List Pair) (lawful : All (λ name. lawful_name name ≡ true) names) (read : All ReadsBack pairs) (few : 1 ≤ length names) (most : length names ≤ 4096) where
-  whole : All Whole (file_records names pairs)
+module _ (names : List (List ℕ)) (pairs : List Pair) (lawful : AllByRecursion (λ name. lawful_name name ≡ true) names) (read : AllByRecursion ReadsBack pairs) (few : 1 ≤ length names) (most : length names ≤ 4096) where
+  whole : AllByRecursion Whole (file_records names pairs)
   whole = All-append Whole (register_records 0 names) (map pair_bytes pairs) (registers_whole 0 names lawful) (pairs_whole pairs)
 
   total : record_count (file_bytes names pairs) ≡ length names + length pairs
@@ -211,12 +211,12 @@ refused_name was items names i d (Refused f) h t r =
     let n = none_taken was items names i d h t r.0 in (n.0, r.1 ∙ ap (λ k. refused 13 (Some k)) (sym n.1))
 refused_name was items names i d Memory h t r = tt
 
-all_lawful : (names : List (List ℕ)) → prefix_len lawful_name names ≡ length names → All (λ name. lawful_name name ≡ true) names
+all_lawful : (names : List (List ℕ)) → prefix_len lawful_name names ≡ length names → AllByRecursion (λ name. lawful_name name ≡ true) names
 all_lawful names e =
     All-from_get_or (λ name. lawful_name name ≡ true) names [] (λ i h. leading_below lawful_name names i [] (omega arith))
 
 -- a file that was put together whole
-pub whole_file : (names : List (List ℕ)) (pairs : List Pair) (start middle items : List ℕ) → start ≡ [] → prefix_len lawful_name names ≡ length names → middle ≡ start ++ joined (register_records 0 names) → items ≡ middle ++ joined (map pair_bytes pairs) → All ReadsBack pairs → 1 ≤ length names → length names ≤ 4096 → (written_as items ≡ writing names pairs) × (opening items ≡ opened (circuit_meaning names pairs))
+pub whole_file : (names : List (List ℕ)) (pairs : List Pair) (start middle items : List ℕ) → start ≡ [] → prefix_len lawful_name names ≡ length names → middle ≡ start ++ joined (register_records 0 names) → items ≡ middle ++ joined (map pair_bytes pairs) → AllByRecursion ReadsBack pairs → 1 ≤ length names → length names ≤ 4096 → (written_as items ≡ writing names pairs) × (opening items ≡ opened (circuit_meaning names pairs))
 whole_file names pairs start middle items s l m i read few most =
     let b : items ≡ file_bytes names pairs = i ∙ ap (λ x. x ++ joined (map pair_bytes pairs)) (m ∙ ap (λ x. x ++ joined (register_records 0 names)) s) ∙ sym (joined_append (register_records 0 names) (map pair_bytes pairs)) in
     let w : writing names pairs ≡ written_as (file_bytes names pairs) = rw (le-leb 1 (length names) few, le-leb (length names) 4096 most, eq-eqb (prefix_len lawful_name names) (length names) l) in

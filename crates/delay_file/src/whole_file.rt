@@ -2,7 +2,7 @@ ghost use Rattle.std.specs.Prelude.{◌≡◌, ◌≤◌, true, ◌++◌, map, l
 ghost use Rattle.delay_file.specs.Files.{circuit_meaning, file_bytes, joined, opened, opening, register_records, written_as, writing};
 ghost use Rattle.delay_file.specs.Records.{ReadsBack, lawful_name, pair_bytes, register_bytes};
 ghost use Rattle.delay_file.specs.Writes.{Refuses, RefusesName, RefusesNames};
-ghost use Rattle.std.specs.List.{prefix_len, AllByRecursion as All};
+ghost use Rattle.std.specs.List.{prefix_len, AllByRecursion};
 
 use crate::encoding::{encode_pair, encode_register};
 use crate::fault::Fault;
@@ -53,7 +53,7 @@ fn push_register(file: &mut Vec<u8>, number: u32, name: &[u8]) -> Result<(), Wri
 // Puts the records of all pairs into a file.
 fn push_pairs(file: &mut Vec<u8>, pairs: &[Pair]) -> Result<(), AllocError>
     ensures items { OnOk result (file.new.items ≡ file.old.items ++ joined (map pair_bytes pairs.now)) }
-    ensures read { OnOk result (All ReadsBack pairs.now) }
+    ensures read { OnOk result (AllByRecursion ReadsBack pairs.now) }
 {
     for pair in pairs {
         file.extend_from_slice(&encode_pair(*pair))?;

@@ -1,6 +1,6 @@
 -- What a verdict names as broken first is broken, and everything before it is kept.
 use Rattle.std.proofs.Common.{◌≡◌, ℕ, zero, suc, ◌+◌, ◌-◌, ◌<◌, ◌≤◌, Bool, true, false, cond, eqb, ◌⊎◌, List, [], ◌∷◌, length, get_or, take, ℤ, pos, negsuc, ◌+ℤ◌, sym, refl, ap, ◌∙◌, subst, inl, inr, ⊎_elim, arith}
-use Rattle.std.specs.List.{range_with_len, AllByRecursion as All}
+use Rattle.std.specs.List.{range_with_len, AllByRecursion}
 use Rattle.std.proofs.lemmas.Int.{ints}
 use Rattle.std.proofs.lemmas.Bool.{cond_both, eqb-true, eqb-false}
 use Rattle.timing.specs.Delays.{Setup, setup_slack, hold_slack}
@@ -77,7 +77,7 @@ pub record FirstEntry (T : ℕ) (time : ℕ → ℤ) (k : ℕ) (es : List Entry)
   pub place : ℕ
   pub counted : j ≡ k + place
   pub within : place < length es
-  pub before : All (Met T time) (take place es)
+  pub before : AllByRecursion (Met T time) (take place es)
   pub which : Pair
   pub there : get_or es place (faulty 5) ≡ pair which
   pub some : 0 < e
@@ -101,7 +101,7 @@ later T time k x es p j e m f =
       limit = f.limit;
     }
 
-pub entries_first : (T : ℕ) (time : ℕ → ℤ) (k : ℕ) (es : List Entry) (p : Part) (j e : ℕ) → All IsPair es → entries_from T time k es ≡ broken p j e → FirstEntry T time k es p j e
+pub entries_first : (T : ℕ) (time : ℕ → ℤ) (k : ℕ) (es : List Entry) (p : Part) (j e : ℕ) → AllByRecursion IsPair es → entries_from T time k es ≡ broken p j e → FirstEntry T time k es p j e
 entries_first T time k [] p j e r h = absurd (let z : ◌≡◌ {A = ℕ} 0 1 = cc in omega arith)
 entries_first T time k (faulty n ∷ es) p j e r h = absurd r.0
 entries_first T time k (pair q ∷ es) p j e r h =
@@ -117,11 +117,11 @@ entries_first T time k (pair q ∷ es) p j e r h =
     (λ b. record { place = 0; counted = b.1 ∙ omega arith; within = omega arith; before = tt; which = q; there = refl; some = b.2; limit = inl (b.0, lacks su e b.2 b.3) })
     (one_part part.Setup k (excess su) (by_excess part.Hold k (excess ho) (entries_from T time (k + 1) es)) p j e h)
 
-module _ (m : Meaning) (pins : List ℕ) (ceiling T s : ℕ) (ds : List ℕ) (readable : All IsPair m.entries) where
+module _ (m : Meaning) (pins : List ℕ) (ceiling T s : ℕ) (ds : List ℕ) (readable : AllByRecursion IsPair m.entries) where
   at_entry : (p : Part) (k e : ℕ) → s ≤ ceiling → ((r : ℕ) → r < m.registers → KeptAt pins ds r) → FirstEntry T (time_of s ds) 0 m.entries p k e → FirstBroken m pins ceiling T s ds p k e
   at_entry p k e u b f =
       let z : f.place ≡ k = sym (f.counted ∙ omega arith) in
-      let before = subst (λ i. All (Met T (time_of s ds)) (take i m.entries)) z f.before in
+      let before = subst (λ i. AllByRecursion (Met T (time_of s ds)) (take i m.entries)) z f.before in
       let there = ap (λ i. get_or m.entries i (faulty 5)) (sym z) ∙ f.there in
       ⊎_elim
       (λ x. rw x.0 (u, b, before, (f.which, there, f.some, x.1)))

@@ -1,6 +1,6 @@
 -- Check passes a draft exactly when the plan is legal.
 use Rattle.std.proofs.Common.{◌≡◌, ℕ, zero, suc, ◌+◌, ◌-◌, ◌<◌, ◌≤◌, Bool, true, false, cond, ◌&&◌, eqb, leb, List, [], ◌∷◌, length, get_or, ℤ, pos, negsuc, ◌≤ℤ◌, None, sym, refl, ◌∙◌, subst, arith}
-use Rattle.std.specs.List.{range_with_len, AllByRecursion as All}
+use Rattle.std.specs.List.{range_with_len, AllByRecursion}
 use Rattle.std.proofs.lemmas.List.FromFn.{length-range_with_len, get_or-range_with_len}
 use Rattle.std.proofs.ByRecursion.{All-get_or, All-from_get_or}
 use Rattle.std.proofs.lemmas.Int.{ints}
@@ -51,7 +51,7 @@ module _ (p : Pair) (T : ℕ) (s t : ℤ) where
   hold_to : Hold p s t → pos 0 ≤ℤ hold_slack p s t
   hold_to h = omega (arith, ints)
 
-pub entries_met : (T : ℕ) (time : ℕ → ℤ) (k : ℕ) (es : List Entry) → All IsPair es → entries_from T time k es ≡ kept → All (Met T time) es
+pub entries_met : (T : ℕ) (time : ℕ → ℤ) (k : ℕ) (es : List Entry) → AllByRecursion IsPair es → entries_from T time k es ≡ kept → AllByRecursion (Met T time) es
 entries_met T time k [] r h = tt
 entries_met T time k (faulty n ∷ es) r h = absurd r.0
 entries_met T time k (pair p ∷ es) r h =
@@ -61,7 +61,7 @@ entries_met T time k (pair p ∷ es) r h =
     let b = kept_parts part.Hold k (excess (hold_slack p s t)) (entries_from T time (k + 1) es) a.1 in
     ((setup_from p T s t (no_excess _ a.0), hold_from p T s t (no_excess _ b.0)), entries_met T time (k + 1) es r.1 b.1)
 
-pub entries_kept : (T : ℕ) (time : ℕ → ℤ) (k : ℕ) (es : List Entry) → All (Met T time) es → entries_from T time k es ≡ kept
+pub entries_kept : (T : ℕ) (time : ℕ → ℤ) (k : ℕ) (es : List Entry) → AllByRecursion (Met T time) es → entries_from T time k es ≡ kept
 entries_kept T time k [] h = refl
 entries_kept T time k (faulty n ∷ es) h = absurd h.0
 entries_kept T time k (pair p ∷ es) h =
@@ -89,24 +89,24 @@ module _ (pins ds : List ℕ) where
   one_pin true r v h = (refl, h)
   one_pin false r v h = absurd (grind arith)
 
-  pub pins_met : (rs : List ℕ) (rest : Verdict) → pins_from pins ds rs rest ≡ kept → All KeptAt rs × (rest ≡ kept)
+  pub pins_met : (rs : List ℕ) (rest : Verdict) → pins_from pins ds rs rest ≡ kept → AllByRecursion KeptAt rs × (rest ≡ kept)
   pins_met [] rest h = (tt, h)
   pins_met (r ∷ rs) rest h =
       let a = one_pin (pin_met (get_or pins r 2) (domains_of ds r)) r (pins_from pins ds rs rest) h in
       let b = pins_met rs rest a.1 in
       ((pin_kept_from _ _ a.0, b.0), b.1)
 
-  pub pins_kept_all : (rs : List ℕ) (rest : Verdict) → All KeptAt rs → pins_from pins ds rs rest ≡ rest
+  pub pins_kept_all : (rs : List ℕ) (rest : Verdict) → AllByRecursion KeptAt rs → pins_from pins ds rs rest ≡ rest
   pins_kept_all [] rest h = refl
   pins_kept_all (r ∷ rs) rest h = rw (pin_kept_to (get_or pins r 2) (domains_of ds r) h.0) (pins_kept_all rs rest h.1)
 
-  below_from : (n : ℕ) → All KeptAt (range_with_len 0 n) → (r : ℕ) → r < n → KeptAt r
+  below_from : (n : ℕ) → AllByRecursion KeptAt (range_with_len 0 n) → (r : ℕ) → r < n → KeptAt r
   below_from n h r l =
       let c = length-range_with_len 0 n in
       let z : 0 + r ≡ r = omega arith in
       subst KeptAt (get_or-range_with_len 0 n r 0 l ∙ z) (All-get_or KeptAt (range_with_len 0 n) r 0 (omega arith) h)
 
-  below_to : (n : ℕ) → ((r : ℕ) → r < n → KeptAt r) → All KeptAt (range_with_len 0 n)
+  below_to : (n : ℕ) → ((r : ℕ) → r < n → KeptAt r) → AllByRecursion KeptAt (range_with_len 0 n)
   below_to n h =
       All-from_get_or KeptAt (range_with_len 0 n) 0 (λ i l.
       let c = length-range_with_len 0 n in
@@ -134,7 +134,7 @@ module _ (m : Meaning) (pins : List ℕ) (ceiling T s : ℕ) (ds : List ℕ) (re
       kept_from part.Ceiling 0 (s - ceiling) (pins_from pins ds (range_with_len 0 m.registers) es) (omega arith)
       (pins_kept_all pins ds (range_with_len 0 m.registers) es (below_to pins ds m.registers l.pins_kept) ∙ entries_kept T (time_of s ds) 0 m.entries l.limits_met)
 
-none_faulty : (k : ℕ) (es : List Entry) → All IsPair es → first_faulty k es ≡ None
+none_faulty : (k : ℕ) (es : List Entry) → AllByRecursion IsPair es → first_faulty k es ≡ None
 none_faulty k [] h = refl
 none_faulty k (pair p ∷ es) h = none_faulty (k + 1) es h.1
 none_faulty k (faulty n ∷ es) h = absurd h.0

@@ -1,6 +1,6 @@
 -- Records put one behind the other into memory.
 use Rattle.std.proofs.Common.{◌≡◌, ℕ, ◌+◌, ◌*◌, ◌<◌, List, [], ◌∷◌, ◌++◌, map, length, get_or, take, drop, sym, refl, ap, ◌∙◌, ap₂, one-add, arith}
-use Rattle.std.specs.List.{range_with_len, AllByRecursion as All}
+use Rattle.std.specs.List.{range_with_len, AllByRecursion}
 use Rattle.std.proofs.lemmas.List.FromFn.{length-map-range_with_len, get_or-map-range_with_len}
 use Rattle.std.proofs.lemmas.List.{drop-drop, take_all}
 use Rattle.delay_file.specs.Files.{joined}
@@ -9,11 +9,11 @@ use Rattle.delay_file.proofs.Written.{Whole, length_joined}
 use Rattle.plan_file.specs.PlanRecords.{plan_records, plan_length, plan_bytes, word_record, domain_word, word_count, head_record, late_number}
 
 module _ (T s n : ℕ) (ds : List ℕ) where
-  words_whole : (js : List ℕ) → All Whole (map (λ j. word_record (64 * j) (domain_word n ds (64 * j))) js)
+  words_whole : (js : List ℕ) → AllByRecursion Whole (map (λ j. word_record (64 * j) (domain_word n ds (64 * j))) js)
   words_whole [] = tt
   words_whole (j ∷ js) = (refl, words_whole js)
 
-  pub plan_whole : All Whole (plan_records T s n ds)
+  pub plan_whole : AllByRecursion Whole (plan_records T s n ds)
   plan_whole = (refl, words_whole (range_with_len 0 (word_count n)))
 
   pub plan_count : length (plan_records T s n ds) ≡ 1 + word_count n

@@ -1,6 +1,6 @@
 -- What check means, in the subject's words.
 use Rattle.std.specs.Prelude.{◌≡◌, ℕ, ◌+◌, ◌<◌, ◌≤◌, List, length, take, pos, ◌+ℤ◌, Ok, Err, Result, slice_index_or}
-use Rattle.std.specs.List.{AllByRecursion as All}
+use Rattle.std.specs.List.{AllByRecursion}
 use Rattle.timing.specs.Bounds.{Period, Offset}
 use Rattle.timing.specs.Delays.{Setup, setup_slack, hold_slack}
 use Rattle.timing.specs.Meaning.{Entry, pair, faulty, Meaning, entry_at}
@@ -25,7 +25,7 @@ pub record Ready (m : Meaning) (pins : List ℕ) (ceiling T s : ℕ) (ds : List 
   pub ceiling_within : Offset ceiling
   pub offset_within : Offset s
   pub few : length m.entries ≤ 16384
-  pub readable : All IsPair m.entries
+  pub readable : AllByRecursion IsPair m.entries
   pub pins_long : m.registers ≤ length pins
   pub domains_long : m.registers ≤ length ds
 
@@ -35,7 +35,7 @@ PinsBelow pins ds k = (r : ℕ) → r < k → PinKept (slice_index_or pins r 2) 
 
 -- every entry before place k meets both limits
 abbrev pub MetBefore : Meaning → ℕ → ℕ → List ℕ → ℕ → Type 0
-MetBefore m T s ds k = All (Met T (time_of s ds)) (take k m.entries)
+MetBefore m T s ds k = AllByRecursion (Met T (time_of s ds)) (take k m.entries)
 
 -- What is named as broken first is broken, by the excess, and everything before it is kept.
 abbrev pub FirstBroken : Meaning → List ℕ → ℕ → ℕ → ℕ → List ℕ → Part → ℕ → ℕ → Type 0

@@ -1,6 +1,6 @@
 -- The pairs that a session keeps, and what it shows as a source of delays.
 use Rattle.std.proofs.Common.{◌≡◌, ℕ, ◌<◌, ◌≤◌, length, get_or, vec_items, sym, ap, ◌∙◌, subst, arith}
-use Rattle.std.specs.List.{AllByRecursion as All}
+use Rattle.std.specs.List.{AllByRecursion}
 use Rattle.std.proofs.ByRecursion.{all_from_every, All-map, All-weaker}
 use Rattle.std.proofs.lemmas.List.{get_or-map, get_or_past, get_or-take, length-map}
 use Rattle.timing.specs.Delays.{Lawful}
@@ -22,7 +22,7 @@ module _ (s : Session) where
   pub kept_at : (k : ℕ) (d : Pair) → k < s.used → get_or (kept s) k d ≡ get_or (vec_items s.pairs) k d
   kept_at k d h = get_or-take s.used (vec_items s.pairs) k d h
 
-  pub kept_lawful : All (KeepsLimits s.registers) (kept s)
+  pub kept_lawful : AllByRecursion (KeepsLimits s.registers) (kept s)
   kept_lawful =
       let l = kept_count in
       all_from_every (KeepsLimits s.registers) (kept s)

@@ -1,7 +1,7 @@
 -- The pairs of a session saved: their records one behind the other, which load as the same pairs.
 use Rattle.std.proofs.Common.{◌≡◌, ℕ, zero, suc, ◌+◌, ◌*◌, ◌<◌, ◌≤◌, true, false, ◌&&◌, ◌||◌, eqb, leb, List, [], ◌∷◌, ◌++◌, map, length, get_or, take, drop, ℤ, pos, negsuc, ◌≤ℤ◌, Some, None, vec_items, Option, sym, refl, ap, ◌∙◌, subst, ap₂, inl, inr, arith, w32, SFits, of_z}
 use lib.Signed.{le_z}
-use Rattle.std.specs.List.{AllByRecursion as All}
+use Rattle.std.specs.List.{AllByRecursion}
 use Rattle.std.proofs.ByRecursion.{all_from_every, All-weaker}
 use Rattle.std.proofs.lemmas.List.{get_or-map, get_or-take, length-map, length-take-le, take_all}
 use Rattle.std.proofs.lemmas.Int.{ints}
@@ -62,7 +62,7 @@ judged_itself n p h =
     let z : (le_z least_delay p.min && (le_z p.min p.max && le_z p.max greatest_delay)) ≡ true = grind (arith, ints) in
     rw (x, y, z)
 
-all_judged : (n : ℕ) (ps : List Pair) → All (KeepsLimits n) ps → map (judged n) ps ≡ map pair ps
+all_judged : (n : ℕ) (ps : List Pair) → AllByRecursion (KeepsLimits n) ps → map (judged n) ps ≡ map pair ps
 all_judged n [] h = refl
 all_judged n (p ∷ ps) h = ap₂ (λ e es. e ∷ es) (judged_itself n p h.0) (all_judged n ps h.1)
 
@@ -72,7 +72,7 @@ Unlike p q = joins p q.launch q.capture ≡ false
 
 abbrev Distinct : List Pair → Type 0
 Distinct [] = Unit {0}
-Distinct (p ∷ ps) = All (Unlike p) ps × Distinct ps
+Distinct (p ∷ ps) = AllByRecursion (Unlike p) ps × Distinct ps
 
 apart_rest : (n : ℕ) (p : Pair) (xs : List Pair) → Apart (suc n) (p ∷ xs) → Apart n xs
 apart_rest n p xs a t =
@@ -107,12 +107,12 @@ granted_add : (b : Book) (p : Pair) → KeepsLimits b.registers p → Absent b p
 granted_add b p h e f r =
     rw (judged_itself b.registers p h, e, lt-leb 16384 b.count f, lt-leb b.places b.count r)
 
-still_absent : (b : Book) (p : Pair) (ps : List Pair) → All (Unlike p) ps → All (Absent b) ps → All (Absent (added b p)) ps
+still_absent : (b : Book) (p : Pair) (ps : List Pair) → AllByRecursion (Unlike p) ps → AllByRecursion (Absent b) ps → AllByRecursion (Absent (added b p)) ps
 still_absent b p [] u h = tt
 still_absent b p (q ∷ ps) u h = (cond-false (joins p q.launch q.capture) _ _ u.0 ∙ h.0, still_absent b p ps u.1 h.1)
 
 -- lawful pairs that are absent and distinct are put in one after another, where there is room
-all_taken : (b : Book) (k : ℕ) (ps : List Pair) → All (KeepsLimits b.registers) ps → Distinct ps → All (Absent b) ps → b.count + length ps ≤ 16384 → b.count + length ps ≤ b.places → load_entries b k (map pair ps) ≡ taken (plus b ps)
+all_taken : (b : Book) (k : ℕ) (ps : List Pair) → AllByRecursion (KeepsLimits b.registers) ps → Distinct ps → AllByRecursion (Absent b) ps → b.count + length ps ≤ 16384 → b.count + length ps ≤ b.places → load_entries b k (map pair ps) ≡ taken (plus b ps)
 all_taken b k [] h d n few room = refl
 all_taken b k (p ∷ ps) h d n few room =
     ap (λ (a : Outcome (Unit {0})). by_add k a (load_entries (added b p) (k + 1) (map pair ps))) (granted_add b p h.0 n.0 (omega arith) (omega arith))
@@ -127,7 +127,7 @@ or_none : (o : Option Pair) → or_else o None ≡ o
 or_none None = refl
 or_none (Some p) = refl
 
-unlike_none : (p : Pair) (ps : List Pair) (x y : ℕ) → joins p x y ≡ true → All (Unlike p) ps → find ps x y ≡ None
+unlike_none : (p : Pair) (ps : List Pair) (x y : ℕ) → joins p x y ≡ true → AllByRecursion (Unlike p) ps → find ps x y ≡ None
 unlike_none p [] x y t u = refl
 unlike_none p (q ∷ ps) x y t u =
     let a = joins_keys p x y t in
@@ -162,12 +162,12 @@ plus_fresh b ps d l =
     (λ x y. plus_at e ps x y d ∙ or_none (find ps x y) ∙ l.each x y)
     (omega arith) (plus_pins e ps) (plus_ceiling e ps)
 
-none_yet : (n places : ℕ) (ps : List Pair) → All (Absent (fresh n places)) ps
+none_yet : (n places : ℕ) (ps : List Pair) → AllByRecursion (Absent (fresh n places)) ps
 none_yet n places [] = tt
 none_yet n places (p ∷ ps) = (refl, none_yet n places ps)
 
 module _ (places : ℕ) (names : List (List ℕ)) (ps : List Pair) where
-  loads_all : All (λ name. lawful_name name ≡ true) names → RegisterCount (length names) → All (KeepsLimits (length names)) ps → Distinct ps → length ps ≤ 16384 → length ps ≤ places → loading (fresh (length names) places) (file_bytes names ps) ≡ taken (plus (fresh (length names) places) ps)
+  loads_all : AllByRecursion (λ name. lawful_name name ≡ true) names → RegisterCount (length names) → AllByRecursion (KeepsLimits (length names)) ps → Distinct ps → length ps ≤ 16384 → length ps ≤ places → loading (fresh (length names) places) (file_bytes names ps) ≡ taken (plus (fresh (length names) places) ps)
   loads_all lawful within limits d few room =
       let n = length names in
       let read = All-weaker (KeepsLimits n) ReadsBack (reads_back n within.1) ps limits in
@@ -187,6 +187,6 @@ loads_kept s names e lawful =
     let d = distinct s.used (vec_items s.pairs) (within_places s) s.apart in
     let l = kept_count s in
     let f = s.fits in let g = s.few in
-    let P : ℕ → Type 0 = λ n. RegisterCount n → All (KeepsLimits n) ps → loading (fresh n places) (file_bytes names ps) ≡ taken (plus (fresh n places) ps) in
+    let P : ℕ → Type 0 = λ n. RegisterCount n → AllByRecursion (KeepsLimits n) ps → loading (fresh n places) (file_bytes names ps) ≡ taken (plus (fresh n places) ps) in
     subst P e (λ within limits. loads_all places names ps lawful within limits d (omega arith) (omega arith)) s.registers_within (kept_lawful s)
     ∙ ap taken (plus_fresh (book s) ps d (lists_kept s))

@@ -1,6 +1,6 @@
 -- What a session saves, and what its read-only view means.
 use Rattle.std.specs.Prelude.{◌≡◌, ℕ, ◌*◌, ◌<◌, ◌≤◌, true, List, ◌++◌, map, length, drop, Ok, Err, Result}
-use Rattle.std.specs.List.{AllByRecursion as All}
+use Rattle.std.specs.List.{AllByRecursion}
 use Rattle.timing.specs.Meaning.{Meaning, pair}
 use Rattle.timing.specs.declared.pair.Pair.{Pair}
 use Rattle.timing.specs.declared.refusal.Refusal.{Refusal}
@@ -37,7 +37,7 @@ fresh_with b =
 -- same register count and pair memory as the same pairs.
 abbrev pub LoadsBack : Book → List Pair → Type 0
 LoadsBack b ps =
-    (names : List (List ℕ)) → length names ≡ b.registers → All (λ name. lawful_name name ≡ true) names → loading (fresh b.registers b.places) (file_bytes names ps) ≡ taken (fresh_with b)
+    (names : List (List ℕ)) → length names ≡ b.registers → AllByRecursion (λ name. lawful_name name ≡ true) names → loading (fresh b.registers b.places) (file_bytes names ps) ≡ taken (fresh_with b)
 
 -- the meaning of a session as a delay source: each pair once, in the order in which save writes them
 abbrev pub session_meaning : Session → Meaning

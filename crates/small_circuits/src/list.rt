@@ -1,5 +1,5 @@
 ghost use Rattle.small_circuits.specs.Yields.{Yields};
-ghost use Rattle.std.specs.List.{AllByRecursion as All};
+ghost use Rattle.std.specs.List.{AllByRecursion};
 
 use crate::circuit::{LeastPlan, LeastTimes, SmallCircuit};
 use timing::limits::MAX_OFFSET;
@@ -17,7 +17,7 @@ const NO_PAIR: Pair = Pair {
 
 // Every one of them, with what the definitions yield for it over all choices of clocks.
 pub fn all() -> [SmallCircuit; 10]
-    ensures { All Yields result }
+    ensures { AllByRecursion Yields result }
 {
     [
         there_and_back(),

@@ -1,6 +1,6 @@
 -- What a source of delays means: how many registers there are, and a list of entries.
 use Rattle.std.specs.Prelude.{ℕ, cond, ◌&&◌, ◌||◌, List, Ok, Err, Result, int_le, nat_le, slice_index_or}
-use Rattle.std.specs.List.{AllByRecursion as All}
+use Rattle.std.specs.List.{AllByRecursion}
 use Rattle.timing.specs.declared.pair.Pair.{Pair}
 use Rattle.timing.specs.declared.refusal.Refusal.{Refusal}
 use Rattle.timing.specs.Bounds.{RegisterCount, least_delay, greatest_delay, missing}
@@ -24,7 +24,7 @@ LawfulEntry n (faulty k) = Unit {0}
 -- what every source shows of its meaning
 pub record LawfulMeaning (m : Meaning) : Type 0 where
   pub count : RegisterCount m.registers
-  pub each : All (LawfulEntry m.registers) m.entries
+  pub each : AllByRecursion (LawfulEntry m.registers) m.entries
 
 -- the entry at a place, counted from 0; at and past the count it is refused with 5
 abbrev pub entry_at : Meaning → ℕ → Entry

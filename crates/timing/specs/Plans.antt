@@ -1,6 +1,6 @@
 -- Plans of two clock domains: which are legal, and which is the least.
 use Rattle.std.specs.Prelude.{◌≡◌, ℕ, ◌<◌, ◌≤◌, cond, List, ℤ, pos, ◌==◌, slice_index, slice_index_or}
-use Rattle.std.specs.List.{AllByRecursion as All}
+use Rattle.std.specs.List.{AllByRecursion}
 use Rattle.timing.specs.declared.domain.Domain.{Domain}
 use Rattle.timing.specs.declared.domain.Domain.TheVariants.{Early, Late}
 use Rattle.timing.specs.Bounds.{Period}
@@ -33,7 +33,7 @@ pub record Legal (m : Meaning) (pins : List ℕ) (ceiling T s : ℕ) (D : ℕ �
   pub period_within : Period T
   pub under_ceiling : s ≤ ceiling
   pub pins_kept : (r : ℕ) → r < m.registers → PinKept (slice_index_or pins r 2) (D r)
-  pub limits_met : All (Met T (λ r. clock s (D r))) m.entries
+  pub limits_met : AllByRecursion (Met T (λ r. clock s (D r))) m.entries
 
 -- the least legal plan: some choice of domains is legal at T and s, every legal plan has at least the period T, and
 -- one of period T at least the offset s

@@ -1,6 +1,6 @@
 -- Free clock times: a whole number for each register, without domains, pins and ceiling.
 use Rattle.std.specs.Prelude.{ℕ, ◌<◌, ◌≤◌, ℤ, pos, ◌≤ℤ◌}
-use Rattle.std.specs.List.{AllByRecursion as All}
+use Rattle.std.specs.List.{AllByRecursion}
 use Rattle.timing.specs.Bounds.{Period}
 use Rattle.timing.specs.Meaning.{Meaning}
 use Rattle.timing.specs.Plans.{Met}
@@ -8,7 +8,7 @@ use Rattle.timing.specs.Plans.{Met}
 -- the clock times are legal at a period
 pub record LegalTimes (m : Meaning) (T : ℕ) (time : ℕ → ℤ) : Type 0 where
   pub period_within : Period T
-  pub limits_met : All (Met T time) m.entries
+  pub limits_met : AllByRecursion (Met T time) m.entries
 
 -- no register is clocked after 0
 abbrev pub NoneAbove0 : Meaning → (ℕ → ℤ) → Type 0

@@ -1,5 +1,5 @@
 use Rattle.std.proofs.Common.{◌++◌, map, vec_items, sym, ap, ◌∙◌, subst, arith}
-use Rattle.std.specs.List.{AllByRecursion as All}
+use Rattle.std.specs.List.{AllByRecursion}
 use Rattle.std.proofs.ByRecursion.{All-more}
 use Rattle.std.proofs.lemmas.List.{take_all}
 use Rattle.delay_file.specs.Files.{joined}
@@ -24,5 +24,5 @@ returns c =
     let e = take_all c.loop-pair.pair-index ps (omega arith) in
     record {
       items = c.loop-pair.invariant.0 ∙ ap (λ xs. vec_items c.args.file.now ++ joined (map pair_bytes xs)) e;
-      read = subst (All ReadsBack) e c.loop-pair.invariant.1;
+      read = subst (AllByRecursion ReadsBack) e c.loop-pair.invariant.1;
     }
