@@ -1,7 +1,6 @@
 -- Numbers in bytes, and tests of bytes.
 use Rattle.std.specs.Prelude.{ℕ, ◌+◌, ◌*◌, ◌/◌, ◌%◌, Bool, true, not, ◌&&◌, List, [], ◌∷◌, ℤ, ◌==◌, nat_le, slice_index}
-use Rattle.std.specs.Int.{w32}
-use Rattle.std.proofs.Common.{to_z, of_z}
+use Rattle.std.specs.Int.{w32, cast_signed, cast_unsigned}
 
 -- the number in the four bytes from byte i on, the most significant first
 abbrev pub be32 : List ℕ → ℕ → ℕ
@@ -9,14 +8,14 @@ be32 xs i = slice_index xs i * 16777216 + slice_index xs (i + 1) * 65536 + slice
 
 -- the signed number in these four bytes, in two's complement
 abbrev pub be_z : List ℕ → ℕ → ℤ
-be_z xs i = to_z w32 (be32 xs i)
+be_z xs i = cast_signed w32 (be32 xs i)
 
 -- the four bytes of a number, and of a signed one
 abbrev pub bytes_of : ℕ → List ℕ
 bytes_of n = (n / 16777216 % 256) ∷ ((n / 65536 % 256) ∷ ((n / 256 % 256) ∷ ((n % 256) ∷ [])))
 
 abbrev pub bytes_of_z : ℤ → List ℕ
-bytes_of_z z = bytes_of (of_z w32 z)
+bytes_of_z z = bytes_of (cast_unsigned w32 z)
 
 abbrev pub every : (ℕ → Bool) → List ℕ → Bool
 every p [] = true

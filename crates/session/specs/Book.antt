@@ -21,7 +21,7 @@ pub record Book : Type 0 where
 
 -- opening wants 1 to 4,096 registers (1) and a byte of pin memory for each (9)
 abbrev pub open_answer : ℕ → ℕ → Outcome (Unit {0})
-open_answer n pin-bytes = unless (nat_le 1 n && nat_le n 4096) 1 (unless (nat_le n pin-bytes) 9 (granted tt))
+open_answer n pin_bytes = unless (nat_le 1 n && nat_le n 4096) 1 (unless (nat_le n pin_bytes) 9 (granted tt))
 
 -- a session that was just opened: no pair, no pin, and a ceiling of 1,000,000
 abbrev pub fresh : ℕ → ℕ → Book

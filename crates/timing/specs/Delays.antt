@@ -13,7 +13,7 @@ pub record Lawful (n : ℕ) (p : Pair) : Type 0 where
   pub max_within : p.max ≤ℤ greatest_delay
 
 -- How far the launch register may be clocked after the capture register: the period less the longest delay.
--- This and hold-room are the only places that say what the delays mean; every limit is said through these two.
+-- This and hold_room are the only places that say what the delays mean; every limit is said through these two.
 abbrev pub setup_room : Pair → ℕ → ℤ
 setup_room p T = pos T -ℤ p.max
 
