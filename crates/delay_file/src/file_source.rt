@@ -18,6 +18,7 @@ impl DelaySource for FileView<'_> {
     }
 
     fn entry(&self, place: usize) -> Result<Pair, Refusal> {
-        Ok(self.pair(place)?)
+        let pair = self.pair(place)?;
+        Ok(pair)
     }
 }

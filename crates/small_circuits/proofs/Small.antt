@@ -1,5 +1,5 @@
 -- What the small circuits ask of every choice of clocks.
-use Rattle.std.proofs.Common.{◌≡◌, ℕ, zero, suc, ◌+◌, ◌<◌, ◌≤◌, List, [], ◌∷◌, map, get_or, ℤ, pos, negsuc, ◌≤ℤ◌, arith}
+use Rattle.std.proofs.Common.{◌≡◌, ℕ, zero, suc, ◌+◌, ◌<◌, ◌≤◌, List, map, replicate, get_or, ℤ, pos, negsuc, ◌≤ℤ◌, arith}
 use Rattle.std.proofs.lemmas.Int.{ints}
 use Rattle.timing.specs.Delays.{Meets}
 use Rattle.timing.specs.Meaning.{Meaning, pair}
@@ -15,11 +15,10 @@ use Rattle.timing.specs.declared.pair.Pair.{Pair}
 pub free : (d : Domain) → PinKept 2 d
 free d = (λ e. absurd (omega arith), λ e. absurd (omega arith))
 
-pub all_free : (D : ℕ → Domain) (r : ℕ) → PinKept (get_or (2 ∷ (2 ∷ (2 ∷ []))) r 2) (D r)
-all_free D zero = free (D 0)
-all_free D (suc zero) = free (D 1)
-all_free D (suc (suc zero)) = free (D 2)
-all_free D (suc (suc (suc r))) = free (D (suc (suc (suc r))))
+pub all_free : (n r : ℕ) (d : Domain) → PinKept (get_or (replicate n 2) r 2) d
+all_free zero r d = free d
+all_free (suc n) zero d = free d
+all_free (suc n) (suc r) d = all_free n r d
 
 abbrev pub path : ℕ → ℕ → ℤ → ℤ → Pair
 path a b low high = record { launch = a; capture = b; min = low; max = high }
@@ -110,5 +109,5 @@ times_yield m T ts l n p o = (record { reached = (times_of ts, l); least = p }, 
 abbrev pub circuit : ℕ → List Pair → Meaning
 circuit n ps = record { registers = n; entries = map pair ps }
 
-abbrev pub no_pins : List ℕ
-no_pins = 2 ∷ (2 ∷ (2 ∷ []))
+abbrev pub no_pins : ℕ → List ℕ
+no_pins n = replicate n 2

@@ -5,15 +5,72 @@ use crate::circuit::{LeastPlan, LeastTimes, SmallCircuit};
 use timing::limits::MAX_OFFSET;
 use timing::pair::Pair;
 
-// Pins that leave every register free.
-const FREE: [u8; 3] = [2, 2, 2];
-// What stands in the place of a pair that is not there.
-const NO_PAIR: Pair = Pair {
+// 0 to 1 (2, 6), 1 to 0 (1, 2)
+const THERE_AND_BACK: [Pair; 2] = [
+    Pair {
+        launch: 0,
+        capture: 1,
+        min: 2,
+        max: 6,
+    },
+    Pair {
+        launch: 1,
+        capture: 0,
+        min: 1,
+        max: 2,
+    },
+];
+// 0 to 1 (2, 6), 1 to 2 (2, 6)
+const TWO_IN_A_ROW: [Pair; 2] = [
+    Pair {
+        launch: 0,
+        capture: 1,
+        min: 2,
+        max: 6,
+    },
+    Pair {
+        launch: 1,
+        capture: 2,
+        min: 2,
+        max: 6,
+    },
+];
+// 0 to 1 (-2, 3)
+const NEGATIVE_HOLD: [Pair; 1] = [Pair {
+    launch: 0,
+    capture: 1,
+    min: -2,
+    max: 3,
+}];
+// 0 to 1 (-3, 4), 1 to 2 (-3, 4)
+const NEGATIVE_HOLD_TWICE: [Pair; 2] = [
+    Pair {
+        launch: 0,
+        capture: 1,
+        min: -3,
+        max: 4,
+    },
+    Pair {
+        launch: 1,
+        capture: 2,
+        min: -3,
+        max: 4,
+    },
+];
+// 0 to 0 (-1, 5)
+const HOLD_BROKEN_BY_ITSELF: [Pair; 1] = [Pair {
+    launch: 0,
+    capture: 0,
+    min: -1,
+    max: 5,
+}];
+// 0 to 0 (0, 5)
+const FROM_ITSELF: [Pair; 1] = [Pair {
     launch: 0,
     capture: 0,
     min: 0,
-    max: 0,
-};
+    max: 5,
+}];
 
 // Every one of them, with what the definitions yield for it over all choices of clocks.
 pub fn all() -> [SmallCircuit; 10]
@@ -33,38 +90,24 @@ pub fn all() -> [SmallCircuit; 10]
     ]
 }
 
-// 0 to 1 (2, 6), 1 to 0 (1, 2): with register 1 late by 2 the long path borrows from the short one.
+// With register 1 late by 2 the long path borrows from the short one.
 fn there_and_back() -> SmallCircuit
     ensures { Yields result }
 {
     SmallCircuit {
         registers: 2,
-        count: 2,
-        pairs: [
-            Pair {
-                launch: 0,
-                capture: 1,
-                min: 2,
-                max: 6,
-            },
-            Pair {
-                launch: 1,
-                capture: 0,
-                min: 1,
-                max: 2,
-            },
-        ],
-        pins: FREE,
+        pairs: &THERE_AND_BACK,
+        pins: &[2, 2],
         ceiling: MAX_OFFSET,
-        plan: LeastPlan::Plan {
+        plan: Some(LeastPlan {
             period: 4,
             offset: 2,
-            domains: [0, 1, 0],
-        },
-        free: LeastTimes::Times {
+            domains: &[0, 1],
+        }),
+        free: Some(LeastTimes {
             period: 4,
-            times: [-2, 0, 0],
-        },
+            times: &[-2, 0],
+        }),
     }
 }
 
@@ -74,32 +117,18 @@ fn low_ceiling() -> SmallCircuit
 {
     SmallCircuit {
         registers: 2,
-        count: 2,
-        pairs: [
-            Pair {
-                launch: 0,
-                capture: 1,
-                min: 2,
-                max: 6,
-            },
-            Pair {
-                launch: 1,
-                capture: 0,
-                min: 1,
-                max: 2,
-            },
-        ],
-        pins: FREE,
+        pairs: &THERE_AND_BACK,
+        pins: &[2, 2],
         ceiling: 1,
-        plan: LeastPlan::Plan {
+        plan: Some(LeastPlan {
             period: 5,
             offset: 1,
-            domains: [0, 1, 0],
-        },
-        free: LeastTimes::Times {
+            domains: &[0, 1],
+        }),
+        free: Some(LeastTimes {
             period: 4,
-            times: [-2, 0, 0],
-        },
+            times: &[-2, 0],
+        }),
     }
 }
 
@@ -109,97 +138,60 @@ fn pinned_early() -> SmallCircuit
 {
     SmallCircuit {
         registers: 2,
-        count: 2,
-        pairs: [
-            Pair {
-                launch: 0,
-                capture: 1,
-                min: 2,
-                max: 6,
-            },
-            Pair {
-                launch: 1,
-                capture: 0,
-                min: 1,
-                max: 2,
-            },
-        ],
-        pins: [2, 0, 2],
+        pairs: &THERE_AND_BACK,
+        pins: &[2, 0],
         ceiling: MAX_OFFSET,
-        plan: LeastPlan::Plan {
+        plan: Some(LeastPlan {
             period: 6,
             offset: 0,
-            domains: [0, 0, 0],
-        },
-        free: LeastTimes::Times {
+            domains: &[0, 0],
+        }),
+        free: Some(LeastTimes {
             period: 4,
-            times: [-2, 0, 0],
-        },
+            times: &[-2, 0],
+        }),
     }
 }
 
-// 0 to 1 (2, 6), 1 to 2 (2, 6): two domains cannot help both paths, free clock times can.
+// Two domains cannot help both paths, free clock times can.
 fn two_in_a_row() -> SmallCircuit
     ensures { Yields result }
 {
     SmallCircuit {
         registers: 3,
-        count: 2,
-        pairs: [
-            Pair {
-                launch: 0,
-                capture: 1,
-                min: 2,
-                max: 6,
-            },
-            Pair {
-                launch: 1,
-                capture: 2,
-                min: 2,
-                max: 6,
-            },
-        ],
-        pins: FREE,
+        pairs: &TWO_IN_A_ROW,
+        pins: &[2, 2, 2],
         ceiling: MAX_OFFSET,
-        plan: LeastPlan::Plan {
+        plan: Some(LeastPlan {
             period: 6,
             offset: 0,
-            domains: [0, 0, 0],
-        },
-        free: LeastTimes::Times {
+            domains: &[0, 0, 0],
+        }),
+        free: Some(LeastTimes {
             period: 4,
-            times: [-4, -2, 0],
-        },
+            times: &[-4, -2, 0],
+        }),
     }
 }
 
-// 0 to 1 (-2, 3): the hold limit asks for register 0 late by 2, and the setup limit pays for it.
+// The hold limit asks for register 0 late by 2, and the setup limit pays for it.
 fn negative_hold() -> SmallCircuit
     ensures { Yields result }
 {
     SmallCircuit {
         registers: 2,
-        count: 1,
-        pairs: [
-            Pair {
-                launch: 0,
-                capture: 1,
-                min: -2,
-                max: 3,
-            },
-            NO_PAIR,
-        ],
-        pins: FREE,
+        pairs: &NEGATIVE_HOLD,
+        pins: &[2, 2],
         ceiling: MAX_OFFSET,
-        plan: LeastPlan::Plan {
+        plan: Some(LeastPlan {
             period: 5,
             offset: 2,
-            domains: [1, 0, 0],
-        },
-        free: LeastTimes::Times {
+            domains: &[1, 0],
+        }),
+        free: Some(LeastTimes {
             period: 5,
-            times: [0, -2, 0],
-        },
+            times: &[0, -2],
+        }),
     }
 }
 
@@ -209,107 +201,66 @@ fn negative_hold_low_ceiling() -> SmallCircuit
 {
     SmallCircuit {
         registers: 2,
-        count: 1,
-        pairs: [
-            Pair {
-                launch: 0,
-                capture: 1,
-                min: -2,
-                max: 3,
-            },
-            NO_PAIR,
-        ],
-        pins: FREE,
+        pairs: &NEGATIVE_HOLD,
+        pins: &[2, 2],
         ceiling: 1,
-        plan: LeastPlan::NoPlan,
-        free: LeastTimes::Times {
+        plan: None,
+        free: Some(LeastTimes {
             period: 5,
-            times: [0, -2, 0],
-        },
+            times: &[0, -2],
+        }),
     }
 }
 
-// 0 to 1 (-3, 4), 1 to 2 (-3, 4): register 1 would have to be early and late. Free clock times can.
+// Register 1 would have to be early and late. Free clock times can.
 fn negative_hold_twice() -> SmallCircuit
     ensures { Yields result }
 {
     SmallCircuit {
         registers: 3,
-        count: 2,
-        pairs: [
-            Pair {
-                launch: 0,
-                capture: 1,
-                min: -3,
-                max: 4,
-            },
-            Pair {
-                launch: 1,
-                capture: 2,
-                min: -3,
-                max: 4,
-            },
-        ],
-        pins: FREE,
+        pairs: &NEGATIVE_HOLD_TWICE,
+        pins: &[2, 2, 2],
         ceiling: MAX_OFFSET,
-        plan: LeastPlan::NoPlan,
-        free: LeastTimes::Times {
+        plan: None,
+        free: Some(LeastTimes {
             period: 7,
-            times: [0, -3, -6],
-        },
+            times: &[0, -3, -6],
+        }),
     }
 }
 
-// 0 to 0 (-1, 5): no clock time lets a register hold against itself.
+// No clock time lets a register hold against itself.
 fn self_hold_broken() -> SmallCircuit
     ensures { Yields result }
 {
     SmallCircuit {
         registers: 1,
-        count: 1,
-        pairs: [
-            Pair {
-                launch: 0,
-                capture: 0,
-                min: -1,
-                max: 5,
-            },
-            NO_PAIR,
-        ],
-        pins: FREE,
+        pairs: &HOLD_BROKEN_BY_ITSELF,
+        pins: &[2],
         ceiling: MAX_OFFSET,
-        plan: LeastPlan::NoPlan,
-        free: LeastTimes::NoTimes,
+        plan: None,
+        free: None,
     }
 }
 
-// 0 to 0 (0, 5): the longest path of a register to itself is its least period.
+// The longest path of a register to itself is its least period.
 fn self_pair() -> SmallCircuit
     ensures { Yields result }
 {
     SmallCircuit {
         registers: 1,
-        count: 1,
-        pairs: [
-            Pair {
-                launch: 0,
-                capture: 0,
-                min: 0,
-                max: 5,
-            },
-            NO_PAIR,
-        ],
-        pins: FREE,
+        pairs: &FROM_ITSELF,
+        pins: &[2],
         ceiling: MAX_OFFSET,
-        plan: LeastPlan::Plan {
+        plan: Some(LeastPlan {
             period: 5,
             offset: 0,
-            domains: [0, 0, 0],
-        },
-        free: LeastTimes::Times {
+            domains: &[0],
+        }),
+        free: Some(LeastTimes {
             period: 5,
-            times: [0, 0, 0],
-        },
+            times: &[0],
+        }),
     }
 }
 
@@ -319,18 +270,17 @@ fn no_pairs() -> SmallCircuit
 {
     SmallCircuit {
         registers: 1,
-        count: 0,
-        pairs: [NO_PAIR, NO_PAIR],
-        pins: FREE,
+        pairs: &[],
+        pins: &[2],
         ceiling: MAX_OFFSET,
-        plan: LeastPlan::Plan {
+        plan: Some(LeastPlan {
             period: 1,
             offset: 0,
-            domains: [0, 0, 0],
-        },
-        free: LeastTimes::Times {
+            domains: &[0],
+        }),
+        free: Some(LeastTimes {
             period: 1,
-            times: [0, 0, 0],
-        },
+            times: &[0],
+        }),
     }
 }

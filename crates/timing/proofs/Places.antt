@@ -1,7 +1,7 @@
 -- Walks over the entries of a source, place by place.
 use Rattle.std.proofs.Common.{◌≡◌, ℕ, zero, suc, ◌+◌, ◌<◌, ◌≤◌, true, false, List, [], ◌∷◌, length, drop, slice_index_or, Some, None, Option, refl, sym, ap, ◌∙◌, arith}
 use Rattle.std.specs.Prelude.{MatchOption}
-use Rattle.std.proofs.lemmas.List.{at_drop_more, at_drop_all}
+use Rattle.std.proofs.lemmas.List.{at_drop_more}
 use Rattle.timing.specs.Meaning.{Entry, pair, faulty, Meaning, entry_at, is_faulty}
 use Rattle.timing.specs.Outcomes.{first_faulty}
 

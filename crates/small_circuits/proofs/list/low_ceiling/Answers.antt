@@ -7,13 +7,13 @@ use Rattle.small_circuits.proofs.list.low_ceiling.Goals as goal
 
 pub returns : goal.returns
 returns c = (
-  plan_yields (circuit 2 (path 0 1 (pos 2) (pos 6) ∷ (path 1 0 (pos 1) (pos 2) ∷ ([])))) no_pins 1 5 1 (0 ∷ (1 ∷ (0 ∷ ([]))))
-      (record { period_within = (omega arith, omega arith); under_ceiling = omega arith; pins_kept = λ r _. all_free (domains_of (0 ∷ (1 ∷ (0 ∷ ([]))))) r; limits_met = ((omega (arith, ints), omega (arith, ints)), ((omega (arith, ints), omega (arith, ints)), tt)) })
+  plan_yields (circuit 2 (path 0 1 (pos 2) (pos 6) ∷ (path 1 0 (pos 1) (pos 2) ∷ ([])))) (no_pins 2) 1 5 1 (0 ∷ (1 ∷ []))
+      (record { period_within = (omega arith, omega arith); under_ceiling = omega arith; pins_kept = λ r _. all_free 2 r (domains_of (0 ∷ (1 ∷ [])) r); limits_met = ((omega (arith, ints), omega (arith, ints)), ((omega (arith, ints), omega (arith, ints)), tt)) })
       (λ T s D l. let b = (back_and_forth T s (D 0) (D 1) l.limits_met.0 l.limits_met.1.0).low_offset in let u = l.under_ceiling in omega arith)
       (λ s D l. let b = (back_and_forth 5 s (D 0) (D 1) l.limits_met.0 l.limits_met.1.0).low_offset in omega arith),
-  times_yield (circuit 2 (path 0 1 (pos 2) (pos 6) ∷ (path 1 0 (pos 1) (pos 2) ∷ ([])))) 4 (negsuc 1 ∷ (pos 0 ∷ (pos 0 ∷ ([]))))
+  times_yield (circuit 2 (path 0 1 (pos 2) (pos 6) ∷ (path 1 0 (pos 1) (pos 2) ∷ ([])))) 4 (negsuc 1 ∷ (pos 0 ∷ []))
       (record { period_within = (omega arith, omega arith); limits_met = ((omega (arith, ints), omega (arith, ints)), ((omega (arith, ints), omega (arith, ints)), tt)) })
-      (below_2 (λ r. times_of (negsuc 1 ∷ (pos 0 ∷ (pos 0 ∷ ([])))) r ≤ℤ pos 0) (omega (arith, ints)) (omega (arith, ints)))
+      (below_2 (λ r. times_of (negsuc 1 ∷ (pos 0 ∷ [])) r ≤ℤ pos 0) (omega (arith, ints)) (omega (arith, ints)))
       (λ T t l. back_and_forth_times T (t 0) (t 1) l.limits_met.0 l.limits_met.1.0)
-      (λ o l n. below_2 (λ r. o r ≤ℤ times_of (negsuc 1 ∷ (pos 0 ∷ (pos 0 ∷ ([])))) r) (let a = n 1 (omega arith) in let b = l.limits_met.0 in omega (arith, ints)) (n 1 (omega arith))),
+      (λ o l n. below_2 (λ r. o r ≤ℤ times_of (negsuc 1 ∷ (pos 0 ∷ [])) r) (let a = n 1 (omega arith) in let b = l.limits_met.0 in omega (arith, ints)) (n 1 (omega arith))),
 )

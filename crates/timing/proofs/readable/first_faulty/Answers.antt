@@ -1,4 +1,4 @@
-use Rattle.std.proofs.Common.{◌≡◌, ℕ, ◌<◌, true, false, length, rules, tests}
+use Rattle.std.proofs.Common.{◌≡◌, true, false, rules, tests}
 use Rattle.std.proofs.lemmas.Iterator.{first_from_Range}
 use Rattle.timing.specs.Meaning.{entry_at, is_faulty}
 use Rattle.timing.proofs.Places.{first_of_all}

@@ -9,7 +9,7 @@ use Rattle.delay_file.proofs.file_source.FileViewDelaySource.entry.Goals as goal
 pub returns : goal.returns
 returns c =
     let v = c.args.self.now in
-    let e : pair c.in_ok-pair.field-0 ≡ entry_at (view_meaning v) c.args.place = answered_entry v c.args.place _ _ refl c.in_ok-pair.ensures in
+    let e : pair c.in_ok-pair.pair ≡ entry_at (view_meaning v) c.args.place = answered_entry v c.args.place _ _ refl c.in_ok-pair.ensures in
     record { value = e; lawful = lawful_answer v c.args.place _ e }
 
 pub returns-in_err-pair : goal.returns-in_err-pair
