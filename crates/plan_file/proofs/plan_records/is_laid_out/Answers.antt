@@ -2,7 +2,7 @@ use Rattle.std.proofs.Common.{ap, ◌∙◌, arith}
 use Rattle.std.proofs.lemmas.List.{take_rest}
 use Rattle.delay_file.specs.Bytes.{every, is_zero}
 use Rattle.plan_file.proofs.Layouts.{laid_by_rest}
-use Rattle.plan_file.proofs.plan_reader.is_laid_out.Goals as goal
+use Rattle.plan_file.proofs.plan_records.is_laid_out.Goals as goal
 
 pub returns : goal.returns
 returns c =
