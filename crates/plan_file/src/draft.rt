@@ -58,6 +58,7 @@ impl Draft<'_> {
         ensures { result ≡ domain_word registers self.now.domains.now first }
     {
         let mut word: u64 = 0;
+        // A fold over the late ones of 64 bits is no plainer: it sets each of them as this loop does.
         for i in 0..64 {
             if self.is_late(registers, first + i) {
                 word |= 1 << i;

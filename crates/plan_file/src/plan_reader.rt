@@ -16,7 +16,7 @@ use timing::limits::{MAX_OFFSET, MAX_PERIOD, MAX_REGISTERS};
 use timing::refusal::Refusal;
 
 // The numbers of a plan that was read. Nobody has checked it, so it is only good for a draft.
-#[derive(Clone, Copy)]
+#[derive(Clone, Copy, PartialEq, Eq, Debug)]
 pub struct PlanNumbers {
     pub period: u32,
     pub offset: u32,
@@ -118,8 +118,8 @@ fn fill_domains(bytes: &[u8], registers: u32, domains: &mut [u8])
     requires words { word_count registers < record_count bytes.now }
     ensures { domains.new ≡ map (domain_bit bytes.now) (range_with_len 0 registers) ++ drop registers domains.old }
 {
-    for register in 0..registers as usize {
+    for (register, domain) in domains[..registers as usize].iter_mut().enumerate() {
         let word = word_at(record_bytes(bytes, 1 + register / 64), 8);
-        domains[register] = ((word >> (register % 64)) % 2) as u8;
+        *domain = ((word >> (register % 64)) % 2) as u8;
     }
 }

@@ -12,11 +12,14 @@ pub(crate) const HEAD: u8 = 16;
 
 pub(crate) const WORD: u8 = 17;
 
+// A word has the domains of this many registers.
+const WORD_REGISTERS: usize = 64;
+
 // How many words of domains so many registers take.
 pub(crate) fn word_count(registers: u32) -> usize
     ensures { result ≡ word_count registers }
 {
-    (registers as usize + 63) / 64
+    (registers as usize).div_ceil(WORD_REGISTERS)
 }
 
 // How many bytes a plan file of so many registers has.
@@ -31,16 +34,15 @@ pub(crate) fn is_laid_out(record: &[u8], kind: u8, second: u8, end: usize) -> bo
     requires { end ≤ 32 }
     ensures { result ≡ laid_out kind second end «record».now }
 {
-    if record.len() != RECORD_BYTES {
-        return false;
+    match record {
+        [first, ones, 0, 0, ..] => {
+            *first == kind
+                && *ones == second
+                && record.len() == RECORD_BYTES
+                && all_zero(&record[end..])
+        }
+        _ => false,
     }
-    let [first, count, reserved2, reserved3, ..] = record else {
-        return false;
-    };
-    if *first != kind || *count != second || *reserved2 != 0 || *reserved3 != 0 {
-        return false;
-    }
-    all_zero(&record[end..])
 }
 
 // The number in the four bytes from `at` on.
