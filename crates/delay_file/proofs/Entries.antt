@@ -1,14 +1,18 @@
 -- The entries of a view: the records behind its registers.
-use Rattle.std.proofs.Common.{◌≡◌, ℕ, ◌+◌, ◌-◌, ◌*◌, ◌<◌, ◌≤◌, Bool, true, false, ltb, List, [], ◌∷◌, length, None, Option, sym, refl, ap, ◌∙◌, subst, inl, inr, arith}
+use Rattle.std.proofs.Common.{◌≡◌, ℕ, ◌+◌, ◌-◌, ◌*◌, ◌<◌, ◌≤◌, Bool, true, false, ltb, List, [], ◌∷◌, length, None, Some, Option, Ok, Err, Result, sym, refl, ap, ◌∙◌, arith}
+use Rattle.std.specs.Prelude.{MatchBool, min}
+use Rattle.std.specs.Result.{result_ok}
 use Rattle.std.specs.List.{range_with_len, AllByRecursion}
 use Rattle.std.proofs.lemmas.List.FromFn.{length-map-range_with_len, get_or-map-range_with_len}
 use Rattle.std.proofs.lemmas.List.{get_or_past}
 use Rattle.std.proofs.ByRecursion.{All-get_or, All-map}
-use Rattle.std.proofs.lemmas.Bool.{cases_eq, cond_both, lt-ltb, le-ltb, ltb-true, ltb-false}
+use Rattle.std.proofs.lemmas.Bool.{cond_both, lt-ltb, le-ltb, ltb-true, ltb-false}
 use Rattle.timing.proofs.Judging.{lawful_judged}
 use Rattle.timing.specs.Meaning.{Entry, pair, faulty, LawfulEntry, LawfulMeaning, entry_at}
 use Rattle.delay_file.specs.declared.view.FileView.{FileView}
-use Rattle.delay_file.specs.Records.{Reading, register, delay, refused, reading}
+use Rattle.delay_file.specs.Records.{Reading, register, delay, refused, reading, name_of, seen}
+use Rattle.delay_file.specs.declared.fault.Fault.{Fault}
+use Rattle.delay_file.specs.declared.reading.Record.{Record}
 use Rattle.delay_file.specs.Bytes.{be32}
 use Rattle.delay_file.specs.Files.{JoinsAt, record_count, record_at, entry_of, located, entry_answer, view_registers, view_meaning}
 use Rattle.delay_file.proofs.Parts.{number_there}
@@ -55,7 +59,7 @@ lawful_view v =
     let n = view_registers v in
     let ks = range_with_len n (record_count v.bytes.now - n) in
     record {
-      count = (omega arith, omega arith);
+      count = v.registers_within;
       each = All-map (LawfulEntry n) (entry_in v n) ks (all_lawful n (λ k. reading k (record_at v.bytes.now k)) ks);
     }
 
@@ -93,7 +97,17 @@ pub field_there : (v : FileView) (n place i x : ℕ) → n ≡ view_registers v 
 field_there v n place i x e h q =
     q ∙ number_there v.bytes.now (n + place) i h ∙ ap (λ m. be32 (record_at v.bytes.now (m + place)) i) e
 
--- one place more that does not join the two registers
-pub none_joins : (v : FileView) (i a b : ℕ) → ((k : ℕ) → k < i → JoinsAt v k a b → ⊥) → (JoinsAt v i a b → ⊥) → (k : ℕ) → k < i + 1 → JoinsAt v k a b → ⊥
-none_joins v i a b before here k h j =
-    elim (cases_eq k i) [ inl e ↦ here (subst (λ m. JoinsAt v m a b) e j) | inr ne ↦ before k (omega arith) j ]
+-- whether an entry before a place joins two registers, from the places before it at which there is an entry
+pub joined_before : (v : FileView) (place n a b : ℕ) (r : Bool) → n ≡ min place (record_count v.bytes.now - view_registers v) → MatchBool r ((k : ℕ) × (k < n) × JoinsAt v k a b) ((k : ℕ) → k < n → JoinsAt v k a b → ⊥) → MatchBool r ((k : ℕ) × (k < place) × JoinsAt v k a b) ((k : ℕ) → k < place → JoinsAt v k a b → ⊥)
+joined_before v place n a b true e h = (h.0, omega (arith, h.1), h.2)
+joined_before v place n a b false e h = λ k l j. h k (omega (arith, j.there)) j
+
+-- what a record that does not read names
+pub nameless : (r : Result Record Fault) → result_ok r ≡ None → None ≡ name_of (seen r)
+nameless (Ok x) e = absurd (grind arith)
+nameless (Err f) e = refl
+
+-- the name of a record that reads
+pub named : (r : Result Record Fault) (x : Record) → result_ok r ≡ Some x → name_of (seen (Ok x)) ≡ name_of (seen r)
+named (Ok y) x e = let q : y ≡ x = cc in ap (λ z. name_of (seen (Ok z))) (sym q)
+named (Err f) x e = absurd (grind arith)

@@ -2,10 +2,17 @@
 use Rattle.std.proofs.Common.{◌≡◌, ℕ, ◌+◌, ◌<◌, ◌≤◌, Bool, true, false, ltb, List, get_or, drop, Ok, ap, ◌∙◌, arith}
 use Rattle.std.specs.List.{range_with_len, prefix_len}
 use Rattle.std.proofs.lemmas.List.FromFn.{length-range_with_len, get_or-range_with_len}
-use Rattle.std.proofs.lemmas.List.Sums.{prefix_len-drop_yes, prefix_len-drop_no, prefix_len-drop_all}
+use Rattle.std.proofs.lemmas.List.Sums.{prefix_len-drop_yes, prefix_len-drop_no, prefix_len-drop_all, prefix_len-le-length}
 use Rattle.std.proofs.lemmas.Bool.{and_from, and_left, and_right}
 use Rattle.std.proofs.lemmas.Bool.Decides.{nat_tests}
 use Rattle.delay_file.specs.Files.{register_at, register_run, register_kind, broken_run, record_count, JudgedRegister}
+
+-- the registers are records
+pub run_within : (bytes : List ℕ) → register_run bytes ≤ record_count bytes
+run_within bytes =
+    let l = length-range_with_len 0 (record_count bytes) in
+    let r = prefix_len-le-length (register_at bytes) (range_with_len 0 (record_count bytes)) in
+    omega arith
 
 -- what is left to count after i records
 abbrev pub ahead : List ℕ → ℕ → ℕ

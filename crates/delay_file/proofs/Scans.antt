@@ -1,18 +1,29 @@
--- Scans of bytes: the steps and the ends of their loops.
-use Rattle.std.proofs.Common.{◌≡◌, ℕ, zero, suc, ◌+◌, ◌-◌, ◌<◌, ◌≤◌, Bool, true, false, ◌&&◌, List, [], ◌∷◌, length, get_or, take, drop, ap, ◌∙◌, arith}
-use Rattle.std.proofs.lemmas.List.{at_drop_more, at_drop_all, take_rest}
-use Rattle.std.proofs.lemmas.Bool.{cond_both}
-use Rattle.std.specs.List.{prefix_len}
-use Rattle.delay_file.specs.Bytes.{every}
+-- Scans of bytes and of places: what a chain over them finds.
+use Rattle.std.proofs.Common.{◌≡◌, ℕ, zero, suc, ◌+◌, ◌-◌, ◌<◌, ◌≤◌, Bool, true, false, cond, ltb, List, [], ◌∷◌, length, get_or, take, drop, Some, None, Option, refl, sym, ap, ◌∙◌, subst, arith}
+use Rattle.std.specs.Prelude.{MatchBool, not, unwrap_or}
+use Rattle.std.proofs.lemmas.List.{take_rest}
+use Rattle.std.proofs.lemmas.List.FromFn.{length-range_with_len, get_or-range_with_len}
+use Rattle.std.proofs.lemmas.List.Sums.{prefix_len-le-length}
+use Rattle.std.proofs.lemmas.Bool.{cond_both, ltb-false}
+use Rattle.std.specs.List.{range_with_len, prefix_len, position_or_len, HoldsAt, AllWithin}
 
-pub every_drop_yes : (p : ℕ → Bool) (xs : List ℕ) (i : ℕ) → i < length xs → p (get_or xs i 0) ≡ true → every p (drop i xs) ≡ every p (drop (i + 1) xs)
-every_drop_yes p xs i h t = at_drop_more (every p) xs i 0 h ∙ ap (λ b. b && every p (drop (i + 1) xs)) t
+-- where an element that passes was found, or the length where none was, is where the first one stands or the length
+pub found_or_len : (p : ℕ → Bool) (xs : List ℕ) (r : Option ℕ) → r ≡ cond (ltb (position_or_len p xs) (length xs)) (Some (position_or_len p xs)) None → (unwrap_or r (length xs) ≡ position_or_len p xs) × (unwrap_or r (length xs) ≤ length xs)
+found_or_len p xs r e =
+    let n = position_or_len p xs in
+    let l = prefix_len-le-length (λ x. not (p x)) xs in
+    rw e (cond_both (ltb n (length xs)) (Some n) None (λ o. (unwrap_or o (length xs) ≡ n) × (unwrap_or o (length xs) ≤ length xs)) (λ t. (refl, l)) (λ f. (omega (arith, ltb-false _ _ f), omega arith)))
 
-pub every_drop_no : (p : ℕ → Bool) (xs : List ℕ) (i : ℕ) → i < length xs → p (get_or xs i 0) ≡ false → every p (drop i xs) ≡ false
-every_drop_no p xs i h t = at_drop_more (every p) xs i 0 h ∙ ap (λ b. b && every p (drop (i + 1) xs)) t
-
-pub every_drop_all : (p : ℕ → Bool) (xs : List ℕ) (i : ℕ) → length xs ≤ i → every p (drop i xs) ≡ true
-every_drop_all p xs i h = at_drop_all (every p) xs i h
+-- whether some number below n was found, from the list of these numbers
+pub some_below : (r : Bool) (n : ℕ) (P : ℕ → Type 0) → MatchBool r ((k : ℕ) × (k < length (range_with_len 0 n)) × HoldsAt P (range_with_len 0 n) k) (AllWithin (λ k. P k → ⊥) (range_with_len 0 n) 0 (length (range_with_len 0 n))) → MatchBool r ((k : ℕ) × (k < n) × P k) ((k : ℕ) → k < n → P k → ⊥)
+some_below true n P h =
+    let m = length-range_with_len 0 n in
+    let e : get_or (range_with_len 0 n) h.0 0 ≡ h.0 = get_or-range_with_len 0 n h.0 0 (omega (arith, h.1)) ∙ omega arith in
+    (h.0, omega (arith, h.1), subst P e (h.2 0))
+some_below false n P h = λ k l p.
+    let m = length-range_with_len 0 n in
+    let e : get_or (range_with_len 0 n) k 0 ≡ k = get_or-range_with_len 0 n k 0 l ∙ omega arith in
+    h k 0 (omega arith) (omega arith) (subst P (sym e) p)
 
 -- a part of a part, both to the end
 pub cut_rest : (xs : List ℕ) (k n : ℕ) → take (length (take (length xs - k) (drop k xs)) - n) (drop n (take (length xs - k) (drop k xs))) ≡ drop n (drop k xs)

@@ -1,6 +1,7 @@
 -- What a record reads as, by its first four bytes.
 use Rattle.std.proofs.Common.{◌≡◌, ℕ, Bool, true, false, cond, ◌&&◌, eqb, List, length, get_or, drop, Some, Option, refl, arith, get_or-drop}
 use Rattle.std.proofs.lemmas.List.{drop-drop}
+use Rattle.std.proofs.lemmas.Bool.Decides.{nat_tests}
 use Rattle.timing.specs.declared.pair.Pair.{Pair}
 use Rattle.delay_file.specs.Bytes.{be32, every, is_zero}
 use Rattle.delay_file.specs.Files.{numbered}
@@ -14,6 +15,10 @@ reading_2 k xs n p q r s = rw (n, p, q, r, s) (simp (drop-drop, get_or-drop))
 
 pub reading_other : (k : ℕ) (xs : List ℕ) → length xs ≡ 32 → starts 1 xs ≡ false → starts 2 xs ≡ false → reading k xs ≡ refused 13 (Some k)
 reading_other k xs n a b = rw (n, a, b)
+
+-- a record of neither kind is malformed
+pub reading_neither : (k : ℕ) (xs : List ℕ) → length xs ≡ 32 → (get_or xs 0 0 ≡ 1 → ⊥) → (get_or xs 0 0 ≡ 2 → ⊥) → reading k xs ≡ refused 13 (Some k)
+reading_neither k xs n a b = reading_other k xs n (grind (arith, nat_tests)) (grind (arith, nat_tests))
 
 none_numbered : (n k : ℕ) (a b : Bool) (p : Pair) → numbered n (cond a (cond b (delay p) (refused 13 (Some k))) (refused 12 (Some k))) ≡ false
 none_numbered n k true true p = refl

@@ -67,10 +67,9 @@ opening bytes =
     (cond (broken_run bytes (register_run bytes)) (closed 13 (Some (register_run bytes))) (counted bytes (register_run bytes)))
     (closed 12 None)
 
--- The register count of a view. No view that was opened has another count than its file; for any other value of the
--- field it is the nearest lawful one, so that every view has a lawful meaning.
+-- the register count of a view, which is from 1 to 4,096
 abbrev pub view_registers : FileView → ℕ
-view_registers v = max 1 (min v.registers 4096)
+view_registers v = v.registers
 
 abbrev pub view_meaning : FileView → Meaning
 view_meaning v = file_meaning v.bytes.now (view_registers v)

@@ -1,4 +1,5 @@
 pub mod Bytes
 pub mod Files
+pub mod Kinds
 pub mod Records
 pub mod Writes

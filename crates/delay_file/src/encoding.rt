@@ -1,7 +1,7 @@
 ghost use Rattle.std.specs.Prelude.{◌≡◌, ℕ, IfOk};
 ghost use Rattle.delay_file.specs.Records.{delay, pair_bytes, reading, register, written};
 
-use crate::layout::{PAIR, RECORD_BYTES, REGISTER};
+use crate::layout::{Kind, RECORD_BYTES};
 use crate::names::is_lawful_name;
 use timing::pair::Pair;
 use timing::refusal::Refusal;
@@ -12,7 +12,7 @@ pub fn encode_pair(pair: Pair) -> [u8; RECORD_BYTES]
     ensures reads_back { (k : ℕ) → reading k result ≡ delay pair }
 {
     let mut record = [0; RECORD_BYTES];
-    record[0] = PAIR;
+    record[0] = Kind::Pair.byte();
     record[4..8].copy_from_slice(&pair.launch.to_be_bytes());
     record[8..12].copy_from_slice(&pair.capture.to_be_bytes());
     record[12..16].copy_from_slice(&pair.min.to_be_bytes());
@@ -29,7 +29,7 @@ pub fn encode_register(number: u32, name: &[u8]) -> Result<[u8; RECORD_BYTES], R
         return Err(Refusal::MalformedRecord);
     }
     let mut record = [0; RECORD_BYTES];
-    record[0] = REGISTER;
+    record[0] = Kind::Register.byte();
     record[4..8].copy_from_slice(&number.to_be_bytes());
     record[8..8 + name.len()].copy_from_slice(name);
     Ok(record)

@@ -1,6 +1,8 @@
 ghost use Rattle.std.specs.Prelude.{◌≡◌, Some, None};
 ghost use Rattle.timing.specs.declared.refusal.Refusal.TheVariants.{MalformedRecord};
 
+use std::error::Error;
+use std::fmt;
 use timing::refusal::Refusal;
 
 // Why a file was refused, and at which of its records, counted from 0 over the whole file. There is no record where
@@ -32,3 +34,26 @@ impl Fault {
         }
     }
 }
+
+// The refusal without its record.
+impl From<Fault> for Refusal {
+    ghost from_gives = { λ fault r. r ≡ fault.refusal };
+
+    fn from(fault: Fault) -> Refusal {
+        fault.refusal
+    }
+}
+
+// The refusal by its number and in words, after the record at fault if there is one.
+impl fmt::Display for Fault {
+    fn fmt<W: fmt::Write>(&self, f: &mut fmt::Formatter<W>) -> fmt::Result {
+        if let Some(record) = self.record {
+            write!(f, "record {record}: ")?;
+        }
+        let refusal = self.refusal;
+        let number = refusal.number();
+        write!(f, "refused {number}: {refusal}")
+    }
+}
+
+impl Error for Fault {}

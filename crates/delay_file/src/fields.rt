@@ -1,10 +1,10 @@
-// The fields of records. These are parts of `decode`, and hold where it uses them.
-ghost use Rattle.std.specs.Prelude.{◌≡◌, ◌+◌, ◌≤◌, length};
-ghost use Rattle.delay_file.specs.Bytes.{be32, be_z, every, is_zero, not_zero};
+// The fields of records.
+ghost use Rattle.std.specs.Prelude.{◌≡◌, ◌+◌, ◌≤◌, length, nat_le, if◌then◌else◌, Some, None};
+ghost use Rattle.delay_file.specs.Bytes.{be32, be64, be_z, every, is_zero, not_zero};
 ghost use Rattle.std.specs.List.{prefix_len};
 
 // The number in the four bytes from `at` on.
-pub(crate) fn word_at(bytes: &[u8], at: usize) -> u32
+pub(crate) fn u32_at(bytes: &[u8], at: usize) -> u32
     requires { at + 4 ≤ length bytes.now }
     ensures { result ≡ be32 bytes.now at }
 {
@@ -12,32 +12,46 @@ pub(crate) fn word_at(bytes: &[u8], at: usize) -> u32
 }
 
 // The signed number in the four bytes from `at` on.
-pub(crate) fn delay_at(bytes: &[u8], at: usize) -> i32
+pub(crate) fn i32_at(bytes: &[u8], at: usize) -> i32
     requires { at + 4 ≤ length bytes.now }
     ensures { result ≡ be_z bytes.now at }
 {
-    i32::from_be_bytes([bytes[at], bytes[at + 1], bytes[at + 2], bytes[at + 3]])
+    u32_at(bytes, at).cast_signed()
+}
+
+// The number in the four bytes from `at` on, if they are there.
+pub fn number_at(bytes: &[u8], at: usize) -> Option<u32>
+    ensures { result ≡ (if nat_le (at + 4) (length bytes.now) then Some (be32 bytes.now at) else None) }
+{
+    let field = bytes.get(at..)?;
+    if field.len() < 4 {
+        return None;
+    }
+    Some(u32_at(bytes, at))
+}
+
+// The number in the eight bytes from `at` on, if they are there.
+pub fn word_at(bytes: &[u8], at: usize) -> Option<u64>
+    ensures { result ≡ (if nat_le (at + 8) (length bytes.now) then Some (be64 bytes.now at) else None) }
+{
+    let field = bytes.get(at..)?;
+    if field.len() < 8 {
+        return None;
+    }
+    let high = u64::from(u32_at(bytes, at));
+    let low = u64::from(u32_at(bytes, at + 4));
+    Some(high * 4_294_967_296 + low)
 }
 
 pub fn all_zero(bytes: &[u8]) -> bool
     ensures { result ≡ every is_zero bytes.now }
 {
-    for b in bytes {
-        if *b != 0 {
-            return false;
-        }
-    }
-    true
+    bytes.iter().all(|b| *b == 0)
 }
 
 // Where the first zero byte stands, or the length where there is none.
 pub(crate) fn first_zero(bytes: &[u8]) -> usize
     ensures { (result ≡ prefix_len not_zero bytes.now) × (result ≤ length bytes.now) }
 {
-    for (i, b) in bytes.iter().enumerate() {
-        if *b == 0 {
-            return i;
-        }
-    }
-    bytes.len()
+    bytes.iter().position(|b| *b == 0).unwrap_or(bytes.len())
 }

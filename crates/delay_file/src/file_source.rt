@@ -14,14 +14,10 @@ impl DelaySource for FileView<'_> {
     }
 
     fn entry_count(&self) -> usize {
-        self.record_count()
-            .saturating_sub(self.register_count() as usize)
+        self.entries()
     }
 
     fn entry(&self, place: usize) -> Result<Pair, Refusal> {
-        match self.pair(place) {
-            Ok(pair) => Ok(pair),
-            Err(fault) => Err(fault.refusal),
-        }
+        Ok(self.pair(place)?)
     }
 }

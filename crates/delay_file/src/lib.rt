@@ -3,10 +3,12 @@
 #![tactic(auto)]
 
 pub mod encoding;
+mod entry;
 pub mod fault;
 pub mod fields;
 pub mod file_source;
 pub mod layout;
+mod leading;
 pub mod names;
 pub mod reading;
 pub mod view;

@@ -8,16 +8,11 @@ use crate::layout::MAX_NAME;
 pub fn is_lawful_name(name: &[u8]) -> bool
     ensures { result ≡ lawful_name name.now }
 {
-    1 <= name.len() && name.len() <= MAX_NAME && all_graphic(name)
+    (1..=MAX_NAME).contains(&name.len()) && all_graphic(name)
 }
 
 fn all_graphic(bytes: &[u8]) -> bool
     ensures { result ≡ every graphic bytes.now }
 {
-    for b in bytes {
-        if *b < 33 || *b > 126 {
-            return false;
-        }
-    }
-    true
+    bytes.iter().all(|b| (33..=126).contains(b))
 }

@@ -2,8 +2,8 @@ ghost use Rattle.delay_file.specs.Records.{Spelled, borrowed, name_of, pair_rest
 ghost use Rattle.std.specs.Prelude.{◌≡◌, length, Ok};
 
 use crate::fault::Fault;
-use crate::fields::{all_zero, delay_at, first_zero, word_at};
-use crate::layout::{PAIR, RECORD_BYTES, REGISTER};
+use crate::fields::{all_zero, first_zero, i32_at, u32_at};
+use crate::layout::{Kind, RECORD_BYTES};
 use crate::names::is_lawful_name;
 use timing::pair::Pair;
 use timing::refusal::Refusal;
@@ -42,10 +42,13 @@ pub fn decode<'a>(bytes: &'a [u8], record: usize) -> Result<Record<'a>, Fault>
     if *reserved1 != 0 || *reserved2 != 0 || *reserved3 != 0 {
         return Err(Fault::at(Refusal::MalformedRecord, record));
     }
-    match *kind {
-        REGISTER => register_in(rest, record),
-        PAIR => Ok(Record::Delay(pair_in(rest, record)?)),
-        _ => Err(Fault::at(Refusal::MalformedRecord, record)),
+    let Ok(kind) = Kind::try_from(*kind) else {
+        return Err(Fault::at(Refusal::MalformedRecord, record));
+    };
+    match kind {
+        Kind::Register => register_in(rest, record),
+        Kind::Pair => Ok(Record::Delay(pair_in(rest, record)?)),
+        Kind::Head | Kind::Word => Err(Fault::at(Refusal::MalformedRecord, record)),
     }
 }
 
@@ -61,7 +64,7 @@ fn register_in<'a>(rest: &'a [u8], record: usize) -> Result<Record<'a>, Fault>
         return Err(Fault::at(Refusal::MalformedRecord, record));
     }
     Ok(Record::Register {
-        number: word_at(rest, 0),
+        number: u32_at(rest, 0),
         name,
     })
 }
@@ -75,9 +78,9 @@ fn pair_in(rest: &[u8], record: usize) -> Result<Pair, Fault>
         return Err(Fault::at(Refusal::MalformedRecord, record));
     }
     Ok(Pair {
-        launch: word_at(rest, 0),
-        capture: word_at(rest, 4),
-        min: delay_at(rest, 8),
-        max: delay_at(rest, 12),
+        launch: u32_at(rest, 0),
+        capture: u32_at(rest, 4),
+        min: i32_at(rest, 8),
+        max: i32_at(rest, 12),
     })
 }

@@ -41,13 +41,12 @@ fn push_registers(file: &mut Vec<u8>, names: &[&[u8]]) -> Result<(), WriteError>
 fn push_register(file: &mut Vec<u8>, number: u32, name: &[u8]) -> Result<(), WriteError>
     ensures { MatchResult result (λ _. (lawful_name name.now ≡ true) × (file.new.items ≡ file.old.items ++ register_bytes number name.now)) (RefusesName number name.now) }
 {
-    match encode_register(number, name) {
-        Ok(record) => {
-            file.extend_from_slice(&record)?;
-            Ok(())
-        }
-        Err(refusal) => Err(WriteError::Refused(Fault::at(refusal, number as usize))),
-    }
+    let record = encode_register(number, name).map_err(|refusal| Fault::at(
+        refusal,
+        number as usize,
+    ))?;
+    file.extend_from_slice(&record)?;
+    Ok(())
 }
 
 // Puts the records of all pairs into a file.

@@ -1,4 +1,4 @@
-ghost use Rattle.delay_file.specs.declared.write_error.WriteError.TheVariants.{Memory};
+ghost use Rattle.delay_file.specs.declared.write_error.WriteError.TheVariants.{Memory, Refused};
 ghost use Rattle.std.specs.Prelude.{◌≡◌};
 
 use crate::fault::Fault;
@@ -16,5 +16,13 @@ impl From<AllocError> for WriteError {
 
     fn from(_error: AllocError) -> WriteError {
         WriteError::Memory
+    }
+}
+
+impl From<Fault> for WriteError {
+    ghost from_gives = { λ fault r. r ≡ Refused fault };
+
+    fn from(fault: Fault) -> WriteError {
+        WriteError::Refused(fault)
     }
 }

@@ -1,5 +1,6 @@
 pub mod Bounds
 pub mod Delays
+pub mod Domains
 pub mod Meaning
 pub mod Outcomes
 pub mod Plans

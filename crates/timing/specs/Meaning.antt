@@ -1,5 +1,5 @@
 -- What a source of delays means: how many registers there are, and a list of entries.
-use Rattle.std.specs.Prelude.{ℕ, cond, ◌&&◌, ◌||◌, List, Ok, Err, Result, int_le, nat_le, slice_index_or}
+use Rattle.std.specs.Prelude.{ℕ, Bool, true, false, cond, ◌&&◌, ◌||◌, List, Ok, Err, Result, int_le, nat_le, slice_index_or}
 use Rattle.std.specs.List.{AllByRecursion}
 use Rattle.timing.specs.declared.pair.Pair.{Pair}
 use Rattle.timing.specs.declared.refusal.Refusal.{Refusal}
@@ -20,6 +20,11 @@ pub record Meaning : Type 0 where
 abbrev pub LawfulEntry : ℕ → Entry → Type 0
 LawfulEntry n (pair p) = Lawful n p
 LawfulEntry n (faulty k) = Unit {0}
+
+-- whether an entry is faulty
+abbrev pub is_faulty : Entry → Bool
+is_faulty (pair p) = false
+is_faulty (faulty k) = true
 
 -- what every source shows of its meaning
 pub record LawfulMeaning (m : Meaning) : Type 0 where

@@ -1,3 +1,4 @@
+ghost use Rattle.timing.specs.Meaning.{entry_at, is_faulty};
 ghost use Rattle.timing.specs.Outcomes.{few_entries, first_faulty, granted, told, unless, unless_faulty};
 ghost use Rattle.std.specs.Prelude.{◌≡◌};
 
@@ -9,12 +10,14 @@ use crate::source::DelaySource;
 pub fn first_faulty<S: DelaySource>(source: &S) -> Option<usize>
     ensures { result ≡ first_faulty 0 (S.meaning source.now).entries }
 {
-    for place in 0..source.entry_count() {
-        if source.entry(place).is_err() {
-            return Some(place);
-        }
-    }
-    None
+    (0..source.entry_count()).find(|place| is_faulty(source, *place))
+}
+
+// Whether the entry at a place is faulty.
+fn is_faulty<S: DelaySource>(source: &S, place: usize) -> bool
+    ensures { result ≡ is_faulty (entry_at (S.meaning source.now) place) }
+{
+    source.entry(place).is_err()
 }
 
 // Whether a source can be worked on: refused with 6 where it has too many entries, then with 15 at its first faulty one.

@@ -1,6 +1,9 @@
 ghost use Rattle.timing.specs.Table.{part_number, refusal_number};
 ghost use Rattle.std.specs.Prelude.{◌≡◌};
 
+use std::error::Error;
+use std::fmt;
+
 // What a draft can break first: its offset the ceiling, a register its pin, an entry its setup or its hold limit.
 #[derive(Clone, Copy, PartialEq, Eq, Debug)]
 pub enum Part {
@@ -79,3 +82,45 @@ impl Refusal {
         }
     }
 }
+
+impl fmt::Display for Part {
+    fn fmt<W: fmt::Write>(&self, f: &mut fmt::Formatter<W>) -> fmt::Result {
+        f.write_str(match self {
+            Part::Ceiling => "offset above the ceiling",
+            Part::Pin => "register not in its pinned domain",
+            Part::Setup => "setup limit broken",
+            Part::Hold => "hold limit broken",
+        })
+    }
+}
+
+// What a row says to people.
+impl fmt::Display for Refusal {
+    fn fmt<W: fmt::Write>(&self, f: &mut fmt::Formatter<W>) -> fmt::Result {
+        match self {
+            Refusal::RegisterCount => {
+                f.write_str("register count outside 1 to 4,096, or not the session's")
+            }
+            Refusal::NoSuchRegister => f.write_str("no such register"),
+            Refusal::DelayOutOfLimits => {
+                f.write_str("delay outside -1,000,000 to 1,000,000, or min above max")
+            }
+            Refusal::PairPresent => f.write_str("pair present"),
+            Refusal::NoSuchEntry => f.write_str("no such pair or entry"),
+            Refusal::TooManyEntries => f.write_str("over 16,384 entries, or pair memory full"),
+            Refusal::OffsetOutOfLimits => f.write_str("ceiling or offset outside 0 to 1,000,000"),
+            Refusal::PeriodOutOfLimits => f.write_str("period outside 1 to 4,096,000,000"),
+            Refusal::MemoryTooShort => f.write_str("memory too short"),
+            Refusal::NoLegalPlan => f.write_str("no legal plan"),
+            Refusal::NoFreeTimes => f.write_str("no free clock times at any period"),
+            Refusal::NotWholeRecords => f.write_str("length not whole records of 32 bytes"),
+            Refusal::MalformedRecord => f.write_str("record malformed"),
+            Refusal::DelayMissing => f.write_str("delay missing"),
+            Refusal::FaultyEntry { .. } => f.write_str("faulty entry"),
+            Refusal::DraftNotLegal { part, .. } => write!(f, "{part}"),
+            Refusal::WitnessUnsound { .. } => f.write_str("witness unsound"),
+        }
+    }
+}
+
+impl Error for Refusal {}

@@ -12,4 +12,4 @@ returns c =
     let g : SFits w32 c.args.pair.max = search rules in
     let n : c.copy_from_slice-3.new.self ≡ bytes_of_z c.args.pair.min = c.copy_from_slice-3.ensures.after ∙ c.to_be_bytes-3.ensures ∙ ap bytes_of_z (to_z-of_z w32 _ f) in
     let x : c.copy_from_slice-4.new.self ≡ bytes_of_z c.args.pair.max = c.copy_from_slice-4.ensures.after ∙ c.to_be_bytes-4.ensures ∙ ap bytes_of_z (to_z-of_z w32 _ g) in
-    rw (a, b, n, x) (record { bytes = refl; reads_back = λ k. pair_reads_back k c.args.pair (search rules) (search rules) f g (search rules) (search rules) })
+    rw (c.byte.ensures, a, b, n, x) (record { bytes = refl; reads_back = λ k. pair_reads_back k c.args.pair (search rules) (search rules) f g (search rules) (search rules) })

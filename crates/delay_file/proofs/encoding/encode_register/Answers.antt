@@ -11,4 +11,4 @@ returns c =
     let b : c.copy_from_slice-2.new.self ≡ c.args.name.now = c.copy_from_slice-2.ensures.after in
     let h : lawful_name c.args.name.now ≡ true = sym c.is_lawful_name.ensures ∙ c.if-not-is_lawful_name.false in
     let e : 8 + length c.args.name.now - 8 ≡ length c.args.name.now = omega arith in
-    rw (a, b, e, drop-replicate {X = ℕ} (length c.args.name.now) 24 0) (record { bytes = rw h; reads_back = λ k. register_reads_back k c.args.number c.args.name.now (search rules) h })
+    rw (c.byte.ensures, a, b, e, drop-replicate {X = ℕ} (length c.args.name.now) 24 0) (record { bytes = rw h; reads_back = λ k. register_reads_back k c.args.number c.args.name.now (search rules) h })

@@ -13,8 +13,8 @@ returns-then-not-all_zero c =
 pub returns : goal.returns
 returns c =
     let e : every is_zero (drop 16 c.args.rest.now) ≡ true = ap (every is_zero) (sym (take_rest c.args.rest.now 16)) ∙ sym c.all_zero.ensures ∙ c.if-not-all_zero.false in
-    let f : SFits w32 c.delay_at.result = search rules in
-    let g : SFits w32 c.delay_at-2.result = search rules in
-    let h = to_z-of_z w32 c.delay_at.result f in
-    let k = to_z-of_z w32 c.delay_at-2.result g in
+    let f : SFits w32 c.i32_at.result = search rules in
+    let g : SFits w32 c.i32_at-2.result = search rules in
+    let h = to_z-of_z w32 c.i32_at.result f in
+    let k = to_z-of_z w32 c.i32_at-2.result g in
     rw e (cc)

@@ -28,4 +28,4 @@ returns c =
     let n : prefix_len not_zero (drop 4 c.args.rest.now) ≡ c.first_zero-end.result = ap (prefix_len not_zero) (sym t) ∙ sym c.first_zero-end.ensures.0 in
     let g = simp (take_rest, sub-zero) at (sym c.is_lawful_name.ensures ∙ c.if-not-is_lawful_name.false) in
     let p = ap (every is_zero) (sym (cut_rest c.args.rest.now 4 c.first_zero-end.result)) ∙ sym c.all_zero.ensures ∙ c.if-not-all_zero.false in
-    rw (n, g, p) (simp (take_rest, sub-zero, c.word_at.ensures))
+    rw (n, g, p) (simp (take_rest, sub-zero, c.u32_at.ensures))

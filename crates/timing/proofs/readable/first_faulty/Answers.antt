@@ -1,18 +1,10 @@
-use Rattle.std.proofs.Common.{sym, ◌∙◌, arith}
-use Rattle.timing.proofs.Places.{faulty_here, faulty_later, faulty_nowhere}
+use Rattle.std.proofs.Common.{◌≡◌, ℕ, ◌<◌, true, false, length, rules, tests}
+use Rattle.std.proofs.lemmas.Iterator.{first_from_Range}
+use Rattle.timing.specs.Meaning.{entry_at, is_faulty}
+use Rattle.timing.proofs.Places.{first_of_all}
 use Rattle.timing.proofs.readable.first_faulty.Goals as goal
-
-pub returns-then-is_err : goal.returns-then-is_err
-returns-then-is_err g c =
-    let m = g.S.DelaySource.meaning c.args.source.now in
-    sym (c.loop-place.invariant ∙ faulty_here m c.loop-place.place c.entry.result (omega arith) c.entry.ensures.value (sym c.if-is_err.ensures.value))
-
-pub loop-place-preserved : goal.loop-place-preserved
-loop-place-preserved g c =
-    let m = g.S.DelaySource.meaning c.args.source.now in
-    c.loop-place.invariant ∙ faulty_later m c.loop-place.place c.entry.result (omega arith) c.entry.ensures.value (sym c.if-is_err.ensures.value)
 
 pub returns : goal.returns
 returns g c =
     let m = g.S.DelaySource.meaning c.args.source.now in
-    sym (c.loop-place.invariant ∙ faulty_nowhere m c.loop-place.place (omega arith))
+    first_of_all m c.find.result (rw (← c.entry_count.ensures) (first_from_Range _ _ _ c.find.result (λ k. is_faulty (entry_at m k) ≡ true) (λ k. is_faulty (entry_at m k) ≡ false) c.find.ensures.ran (λ x q k. search (rules, tests)) (λ x q k. search (rules, tests))))

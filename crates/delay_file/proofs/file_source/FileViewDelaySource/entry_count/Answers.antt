@@ -3,4 +3,4 @@ use Rattle.delay_file.proofs.Entries.{entry_count_is}
 use Rattle.delay_file.proofs.file_source.FileViewDelaySource.entry_count.Goals as goal
 
 pub returns : goal.returns
-returns c = let e = entry_count_is c.args.self.now in omega (arith, c.record_count.ensures, c.register_count.ensures.value, c.saturating_sub.ensures)
+returns c = let e = entry_count_is c.args.self.now in omega (arith, c.entries.ensures)

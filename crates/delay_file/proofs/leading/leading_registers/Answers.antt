@@ -2,7 +2,7 @@ use Rattle.std.proofs.Common.{sym, arith}
 use Rattle.std.proofs.lemmas.Result.{err_from_is_err_and}
 use Rattle.delay_file.specs.Files.{record_count}
 use Rattle.delay_file.proofs.Runs.{counted_on, all_registers, run_ends, not_broken, broken, past_end, judged_no, judged_yes}
-use Rattle.delay_file.proofs.view.leading_registers.Goals as goal
+use Rattle.delay_file.proofs.leading.leading_registers.Goals as goal
 
 pub returns-in_err-is_register : goal.returns-in_err-is_register
 returns-in_err-is_register c =

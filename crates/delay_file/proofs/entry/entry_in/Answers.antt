@@ -1,6 +1,6 @@
 use Rattle.std.proofs.lemmas.Result.{err_from_is_err_and}
 use Rattle.delay_file.proofs.Entries.{passed_on}
-use Rattle.delay_file.proofs.view.entry_in.Goals as goal
+use Rattle.delay_file.proofs.entry.entry_in.Goals as goal
 
 pub returns-in_err-decode : goal.returns-in_err-decode
 returns-in_err-decode c =
