@@ -6,7 +6,7 @@ ghost use Rattle.timing.specs.Outcomes.{told};
 pub use crate::checked_plan::CheckedPlan;
 use crate::draft::Draft;
 use crate::first_broken::first_broken;
-use timing::limits::{MAX_OFFSET, MAX_PERIOD};
+use timing::limits::{check_offset, check_period};
 use timing::readable::check_readable;
 use timing::refusal::Refusal;
 use timing::source::DelaySource;
@@ -50,12 +50,9 @@ fn judge<S: DelaySource>(
 ) -> Result<(), Refusal>
     ensures { told result ≡ draft_answer (S.meaning source.now) pins.now ceiling draft.now }
 {
-    if draft.period < 1 || draft.period > MAX_PERIOD {
-        return Err(Refusal::PeriodOutOfLimits);
-    }
-    if ceiling > MAX_OFFSET || draft.offset > MAX_OFFSET {
-        return Err(Refusal::OffsetOutOfLimits);
-    }
+    check_period(draft.period)?;
+    check_offset(ceiling)?;
+    check_offset(draft.offset)?;
     check_readable(source)?;
     let registers = source.register_count() as usize;
     if pins.len() < registers || draft.domains.len() < registers {

@@ -20,10 +20,9 @@ impl Draft<'_> {
     pub fn domain(&self, register: u32) -> Domain
         ensures { result ≡ domains_of self.now.domains.now register }
     {
-        match self.domains.get(register as usize) {
-            Some(1) => Domain::Late,
-            _ => Domain::Early,
-        }
+        self.domains
+            .get(register as usize)
+            .map_or(Domain::Early, |&byte| Domain::from(byte))
     }
 
     // When a register is clocked.

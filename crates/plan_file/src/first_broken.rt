@@ -9,14 +9,11 @@ ghost use Rattle.timing.specs.Slacks.{excess, limit_slack};
 ghost use Rattle.timing.specs.declared.refusal.Refusal.TheVariants.{DraftNotLegal};
 
 use crate::draft::Draft;
-use timing::domain::Domain;
+use timing::domain::{Domain, FREE};
 use timing::limit::Limit;
 use timing::pair::Pair;
 use timing::refusal::{Part, Refusal};
 use timing::source::DelaySource;
-
-// The pin byte of a register that may have either domain.
-const FREE: u8 = 2;
 
 // A part of a draft that is broken, where, and by how much.
 #[derive(Clone, Copy)]
@@ -89,8 +86,8 @@ fn is_pin_met(pins: &[u8], draft: &Draft<'_>, register: u32) -> bool
 {
     let pin = pins.get(register as usize).copied().unwrap_or(FREE);
     match draft.domain(register) {
-        Domain::Early => pin != 1,
-        Domain::Late => pin != 0,
+        Domain::Early => pin != Domain::Late.byte(),
+        Domain::Late => pin != Domain::Early.byte(),
     }
 }
 

@@ -5,8 +5,9 @@ ghost use Rattle.plan_file.specs.PlanReading.{head_good};
 ghost use Rattle.plan_file.specs.PlanRecords.{head_record};
 
 use crate::plan_reader::PlanNumbers;
-use crate::plan_records::{HEAD, is_laid_out, number_at};
-use delay_file::layout::RECORD_BYTES;
+use crate::plan_records::is_laid_out;
+use delay_file::fields::number_at;
+use delay_file::layout::{Kind, RECORD_BYTES};
 
 // The numbers of a plan, and how many of its registers are late.
 #[derive(Clone, Copy)]
@@ -20,15 +21,15 @@ impl Head {
     pub(crate) fn read(record: &[u8]) -> Option<Head>
         ensures { result ≡ (if head_good «record».now then Some (head_of «record».now) else None) }
     {
-        if !is_laid_out(record, HEAD, 0, 20) {
+        if !is_laid_out(record, Kind::Head, 0, 20) {
             return None;
         }
         let numbers = PlanNumbers {
-            period: number_at(record, 4),
-            offset: number_at(record, 8),
-            registers: number_at(record, 12),
+            period: number_at(record, 4)?,
+            offset: number_at(record, 8)?,
+            registers: number_at(record, 12)?,
         };
-        let late = number_at(record, 16);
+        let late = number_at(record, 16)?;
         numbers.is_within_limits().then_some(Head { numbers, late })
     }
 
@@ -37,7 +38,7 @@ impl Head {
         ensures { result ≡ head_record self.numbers.period self.numbers.offset self.numbers.registers self.late }
     {
         let mut record = [0; RECORD_BYTES];
-        record[0] = HEAD;
+        record[0] = Kind::Head.byte();
         record[4..8].copy_from_slice(&self.numbers.period.to_be_bytes());
         record[8..12].copy_from_slice(&self.numbers.offset.to_be_bytes());
         record[12..16].copy_from_slice(&self.numbers.registers.to_be_bytes());

@@ -1,7 +1,8 @@
 // Plan files, read: the records of a file, one by one, and the domains that its words hold.
 ghost use Rattle.std.specs.Prelude.{◌≡◌, ◌^◌, ◌<◌, ◌≤◌, ◌&&◌, ◌++◌, map, length, drop, IfOk, if◌then◌else◌, Some, None, nat_le, nat_lt};
 ghost use Rattle.plan_file.specs.PlanRead.{RestStays, WordsFound, read_as};
-ghost use Rattle.plan_file.specs.PlanReading.{be64, domain_bit, plan_reading, word_good};
+ghost use Rattle.delay_file.specs.Bytes.{be64};
+ghost use Rattle.plan_file.specs.PlanReading.{domain_bit, plan_reading, word_good};
 ghost use Rattle.delay_file.specs.Files.{record_count};
 ghost use Rattle.plan_file.specs.PlanRecords.{plan_bytes, word_count};
 ghost use Rattle.std.specs.List.{range_with_len};
@@ -9,10 +10,11 @@ ghost use Rattle.timing.specs.Outcomes.{offset_within, period_within};
 
 use crate::draft::Draft;
 use crate::head::Head;
-use crate::plan_records::{WORD, is_laid_out, number_at, word_at, word_count};
+use crate::plan_records::{is_laid_out, word_count};
 use delay_file::fault::Fault;
-use delay_file::layout::{RECORD_BYTES, record_bytes};
-use timing::limits::{MAX_OFFSET, MAX_PERIOD, MAX_REGISTERS};
+use delay_file::fields::{number_at, word_at};
+use delay_file::layout::{Kind, RECORD_BYTES, record_bytes};
+use timing::limits::{MAX_REGISTERS, check_offset, check_period};
 use timing::refusal::Refusal;
 
 // The numbers of a plan that was read. Nobody has checked it, so it is only good for a draft.
@@ -39,8 +41,8 @@ impl PlanNumbers {
     pub(crate) fn is_within_limits(self) -> bool
         ensures { result ≡ period_within self.period && (offset_within self.offset && (nat_le 1 self.registers && nat_le self.registers 4096)) }
     {
-        (1..=MAX_PERIOD).contains(&self.period)
-            && self.offset <= MAX_OFFSET
+        check_period(self.period).is_ok()
+            && check_offset(self.offset).is_ok()
             && (1..=MAX_REGISTERS).contains(&self.registers)
     }
 }
@@ -94,13 +96,10 @@ fn ones_in_words(bytes: &[u8], registers: u32) -> Result<u32, Fault>
 fn word_in(record: &[u8], first: u32, registers: u32) -> Option<u64>
     ensures { result ≡ (if word_good registers first «record».now then Some (be64 «record».now 8) else None) }
 {
-    if record.len() != RECORD_BYTES {
-        return None;
-    }
-    let word = word_at(record, 8);
+    let word = word_at(record, 8)?;
     let ones = word.count_ones() as u8;
-    let is_good = is_laid_out(record, WORD, ones, 16)
-        && number_at(record, 4) == first
+    let is_good = is_laid_out(record, Kind::Word, ones, 16)
+        && number_at(record, 4)? == first
         && is_below_bit(word, registers.saturating_sub(first));
     is_good.then_some(word)
 }
@@ -119,7 +118,7 @@ fn fill_domains(bytes: &[u8], registers: u32, domains: &mut [u8])
     ensures { domains.new ≡ map (domain_bit bytes.now) (range_with_len 0 registers) ++ drop registers domains.old }
 {
     for (register, domain) in domains[..registers as usize].iter_mut().enumerate() {
-        let word = word_at(record_bytes(bytes, 1 + register / 64), 8);
+        let word = word_at(record_bytes(bytes, 1 + register / 64), 8).unwrap_or(0);
         *domain = ((word >> (register % 64)) % 2) as u8;
     }
 }

@@ -1,16 +1,11 @@
 // The records of a plan file: how they are laid out, and a word of domains, written.
 ghost use Rattle.std.specs.Prelude.{◌≡◌, ◌+◌, ◌*◌, ◌≤◌, ◌++◌, length, take, drop};
-ghost use Rattle.delay_file.specs.Bytes.{be32};
-ghost use Rattle.plan_file.specs.PlanReading.{be64, laid_out};
+ghost use Rattle.delay_file.specs.Kinds.{kind_byte};
+ghost use Rattle.plan_file.specs.PlanReading.{laid_out};
 ghost use Rattle.plan_file.specs.PlanRecords.{plan_length, word_count, word_record};
 
 use delay_file::fields::all_zero;
-use delay_file::layout::RECORD_BYTES;
-
-// The kinds of record, which stand in byte 0.
-pub(crate) const HEAD: u8 = 16;
-
-pub(crate) const WORD: u8 = 17;
+use delay_file::layout::{Kind, RECORD_BYTES};
 
 // A word has the domains of this many registers.
 const WORD_REGISTERS: usize = 64;
@@ -30,13 +25,13 @@ pub(crate) fn plan_length(registers: u32) -> usize
 }
 
 // Whether a record is of a kind and has this byte 1, and all bytes that its fields leave are zero.
-pub(crate) fn is_laid_out(record: &[u8], kind: u8, second: u8, end: usize) -> bool
+pub(crate) fn is_laid_out(record: &[u8], kind: Kind, second: u8, end: usize) -> bool
     requires { end ≤ 32 }
-    ensures { result ≡ laid_out kind second end «record».now }
+    ensures { result ≡ laid_out (kind_byte kind) second end «record».now }
 {
     match record {
         [first, ones, 0, 0, ..] => {
-            *first == kind
+            *first == kind.byte()
                 && *ones == second
                 && record.len() == RECORD_BYTES
                 && all_zero(&record[end..])
@@ -45,30 +40,12 @@ pub(crate) fn is_laid_out(record: &[u8], kind: u8, second: u8, end: usize) -> bo
     }
 }
 
-// The number in the four bytes from `at` on.
-pub(crate) fn number_at(bytes: &[u8], at: usize) -> u32
-    requires { at + 4 ≤ length bytes.now }
-    ensures { result ≡ be32 bytes.now at }
-{
-    u32::from_be_bytes([bytes[at], bytes[at + 1], bytes[at + 2], bytes[at + 3]])
-}
-
-// The number in the eight bytes from `at` on.
-pub(crate) fn word_at(bytes: &[u8], at: usize) -> u64
-    requires { at + 8 ≤ length bytes.now }
-    ensures { result ≡ be64 bytes.now at }
-{
-    let high = u64::from(number_at(bytes, at));
-    let low = u64::from(number_at(bytes, at + 4));
-    high * 4_294_967_296 + low
-}
-
 // A word of domains, with the count of ones in it.
 pub(crate) fn word_bytes(first: u32, word: u64) -> [u8; RECORD_BYTES]
     ensures { result ≡ word_record first word }
 {
     let mut record = [0; RECORD_BYTES];
-    record[0] = WORD;
+    record[0] = Kind::Word.byte();
     record[1] = word.count_ones() as u8;
     record[4..8].copy_from_slice(&first.to_be_bytes());
     record[8..16].copy_from_slice(&word.to_be_bytes());

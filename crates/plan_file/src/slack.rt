@@ -3,7 +3,7 @@ ghost use Rattle.timing.specs.Outcomes.{told};
 ghost use Rattle.std.specs.Prelude.{◌≡◌};
 
 use crate::draft::Draft;
-use timing::limits::{MAX_OFFSET, MAX_PERIOD};
+use timing::limits::{check_offset, check_period};
 use timing::readable::first_faulty;
 use timing::refusal::Refusal;
 use timing::source::DelaySource;
@@ -16,12 +16,8 @@ pub fn slack_at<S: DelaySource>(
 ) -> Result<i128, Refusal>
     ensures { told result ≡ draft_slack_answer (S.meaning source.now) draft.now place }
 {
-    if draft.period < 1 || draft.period > MAX_PERIOD {
-        return Err(Refusal::PeriodOutOfLimits);
-    }
-    if draft.offset > MAX_OFFSET {
-        return Err(Refusal::OffsetOutOfLimits);
-    }
+    check_period(draft.period)?;
+    check_offset(draft.offset)?;
     if let Some(place) = first_faulty(source) {
         return Err(Refusal::FaultyEntry { place });
     }
