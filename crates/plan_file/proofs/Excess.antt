@@ -1,11 +1,10 @@
 -- The slack of a lawful pair under a draft is never so far below 0 that its excess would not fit 32 bits.
-use Rattle.std.proofs.Common.{◌≡◌, ℕ, suc, ◌≤◌, true, false, T, ℤ, pos, negsuc, ◌-ℤ◌, nat_abs, ◌≤ℤ◌, sym, refl, ap, ◌∙◌, ap₂, arith, w32, w64, Fits, SFits, to_z, of_z}
-use lib.Signed.{lt_z, non_neg}
+use Rattle.std.proofs.Common.{◌≡◌, ℕ, ◌≤◌, T, ℤ, pos, negsuc, ◌≤ℤ◌, ◌∙◌, ap₂, arith, w64, SFits, to_z, of_z}
 use mir.Syntax.{w128}
 use Rattle.std.proofs.lemmas.Int.{ints, to_z-of_z}
 use Rattle.timing.specs.Bounds.{least_delay, greatest_delay}
 use Rattle.timing.specs.Plans.{clock}
-use Rattle.timing.specs.Slacks.{limit_slack, excess}
+use Rattle.timing.specs.Slacks.{limit_slack}
 use Rattle.timing.specs.declared.domain.Domain.{Domain}
 use Rattle.timing.specs.declared.domain.Domain.TheVariants.{Early, Late}
 use Rattle.timing.specs.declared.limit.Limit.{Limit}
@@ -25,22 +24,6 @@ slack_within Hold p T s d e g m o =
     let a = time_within s d o in
     let b = time_within s e o in
     omega (arith, ints)
-
--- the number that the code casts
-pub negated : (z y : ℤ) → SFits w128 z → lt_z (to_z w128 (of_z w128 z)) (pos 0) ≡ true → negsuc 1999999 ≤ℤ z → y ≡ to_z w128 (of_z w128 (pos 0 -ℤ to_z w128 (of_z w128 z))) → y ≡ pos (excess z)
-negated (pos n) y f h b e = absurd (let g = ap (λ x. lt_z x (pos 0)) (sym (to_z-of_z w128 (pos n) f)) ∙ h in grind (arith, ints))
-negated (negsuc n) y f h b e =
-    let d : pos 0 -ℤ negsuc n ≡ pos (suc n) = omega (arith, ints) in
-    let k : n ≤ 1999999 = omega (arith, ints) in
-    e ∙ ap (λ y. to_z w128 (of_z w128 (pos 0 -ℤ y))) (to_z-of_z w128 (negsuc n) f) ∙ ap (λ y. to_z w128 (of_z w128 y)) d ∙ to_z-of_z w128 (pos (suc n)) (omega (arith, ints))
-
-pub cast_small : (z y : ℤ) → negsuc 1999999 ≤ℤ z → y ≡ pos (excess z) → T (non_neg y) × Fits w32 (nat_abs y)
-cast_small (pos n) y b e = rw e (tt, omega arith)
-cast_small (negsuc n) y b e = let k : n ≤ 1999999 = omega (arith, ints) in rw e (tt, omega arith)
-
-pub kept_excess : (z : ℤ) → SFits w128 z → lt_z (to_z w128 (of_z w128 z)) (pos 0) ≡ false → 0 ≡ excess z
-kept_excess (pos n) f h = refl
-kept_excess (negsuc n) f h = absurd (let g = ap (λ x. lt_z x (pos 0)) (sym (to_z-of_z w128 (negsuc n) f)) ∙ h in grind (arith, ints))
 
 -- the slack that the code computes, without its casts
 pub slack_plain : (l : Limit) (p : Pair) (T : ℕ) (a b z s t : ℤ) → SFits w64 a → SFits w64 b → SFits w128 z → a ≡ s → b ≡ t → z ≡ limit_slack l p T (to_z w64 (of_z w64 a)) (to_z w64 (of_z w64 b)) → to_z w128 (of_z w128 z) ≡ limit_slack l p T s t

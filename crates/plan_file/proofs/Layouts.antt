@@ -8,11 +8,6 @@ use Rattle.delay_file.proofs.Spellings.{four, quad, word, all_zero_is}
 use Rattle.plan_file.specs.PlanReading.{be64, laid_out}
 use Rattle.plan_file.specs.PlanRecords.{head_record, word_record, word_bytes}
 
--- the first four bytes are as they should be: the rest decides
-pub laid_by_rest : (kind second end : ℕ) (xs : List ℕ) → length xs ≡ 32 → get_or xs 0 0 ≡ kind → get_or xs 1 0 ≡ second → get_or xs 2 0 ≡ 0 → get_or xs 3 0 ≡ 0 → every is_zero (drop end xs) ≡ laid_out kind second end xs
-laid_by_rest kind second end xs n a b c d =
-    rw (eq-eqb (length xs) 32 n, eq-eqb (get_or xs 0 0) kind a, eq-eqb (get_or xs 1 0) second b, eq-eqb (get_or xs 2 0) 0 c, eq-eqb (get_or xs 3 0) 0 d)
-
 -- a word of 64 bits has no bits from the 64th on
 pub below_more_bits : (w k : ℕ) → w < 2 ^ 64 → 64 ≤ k → ltb w (2 ^ k) ≡ true
 below_more_bits w k h g = let p : 2 ^ 64 ≤ 2 ^ k = pow_mono g in lt-ltb w (2 ^ k) (omega arith)

@@ -5,6 +5,10 @@ use lib.Bits.{bit_or, or_shifted_r}
 use lib.Count.{ones, ones_step}
 use lib.Pow.{pow-lt}
 use Rattle.std.proofs.lemmas.Bool.{eqb-true, eqb-false, leb-true, leb-false}
+use Rattle.std.specs.List.{count_by, range_with_len}
+use Rattle.std.proofs.lemmas.List.{map-id}
+use Rattle.std.proofs.lemmas.List.FromFn.{length-range_with_len, sum_by-map-range_with_len_more}
+use Rattle.std.proofs.lemmas.List.Sums.{count_by-le-length}
 use Rattle.plan_file.specs.PlanRecords.{bit, packed, count}
 
 one_more : (b : Bool) (p x : ℕ) → p < x → p + bit b * x < x * 2
@@ -32,14 +36,6 @@ skip_bit f k w t e =
     let a : packed f k ≡ packed f k + bit (f k) * 2 ^ k = rw t (omega arith) in
     e ∙ a ∙ ap (packed f) (sym (add-one k))
 
-pub count_yes : (f : ℕ → Bool) (k n : ℕ) → f k ≡ true → n ≡ count f k → n + 1 ≡ count f (k + 1)
-unfolding count
-count_yes f k n t e = let a : n + 1 ≡ count f k + bit (f k) = rw (t, e) refl in a ∙ ap (count f) (sym (add-one k))
-
-pub count_no : (f : ℕ → Bool) (k n : ℕ) → f k ≡ false → n ≡ count f k → n ≡ count f (k + 1)
-unfolding count
-count_no f k n t e = let a : n ≡ count f k + bit (f k) = rw (t, e) (omega arith) in a ∙ ap (count f) (sym (add-one k))
-
 pub packed_all : (f : ℕ → Bool) (k n : ℕ) → k ≡ n → packed f k ≡ packed f n
 packed_all f k n e = ap (packed f) e
 
@@ -47,9 +43,12 @@ pub packed_none : (f : ℕ → Bool) → 0 ≡ packed f 0
 unfolding packed
 packed_none f = refl
 
-pub count_none : (f : ℕ → Bool) → 0 ≡ count f 0
-unfolding count
-count_none f = refl
+-- one more at the end
+count-suc : (f : ℕ → Bool) (k : ℕ) → count f (suc k) ≡ count f k + bit (f k)
+count-suc f k =
+    ap (count f) (sym (add-one k)) ∙ ap (count_by f) (sym (map-id (range_with_len 0 (k + 1))))
+    ∙ sum_by-map-range_with_len_more (λ i. bit (f i)) (λ i. i) 0 k k (omega arith)
+    ∙ ap (λ xs. count_by f xs + bit (f k)) (map-id (range_with_len 0 k))
 
 -- the lowest bit, and the others
 doubled : (a b x y : ℕ) → b * (x * 2) ≡ 2 * (b * x)
@@ -66,9 +65,8 @@ packed_low f (suc k) =
     omega arith
 
 count_low : (f : ℕ → Bool) (k : ℕ) → count f (suc k) ≡ bit (f 0) + count (λ i. f (suc i)) k
-unfolding count
-count_low f zero = omega arith
-count_low f (suc k) = let e = count_low f k in omega arith
+count_low f zero = count-suc f 0 ∙ omega arith
+count_low f (suc k) = let e = count_low f k in let a = count-suc f (suc k) in let b = count-suc (λ i. f (suc i)) k in omega arith
 
 bit_lt : (b : Bool) → bit b < 2
 bit_lt true = omega arith
@@ -82,7 +80,7 @@ half b m h = omega arith
 
 -- the count of ones in a word is how many of its bits are set
 pub ones_packed : (f : ℕ → Bool) (k : ℕ) → ones (packed f k) ≡ count f k
-unfolding packed count ones
+unfolding packed ones
 ones_packed f zero = refl
 ones_packed f (suc k) =
     let b = bit_lt (f 0) in
@@ -147,27 +145,26 @@ packed_past f m (suc k) h =
     s ∙ z ∙ packed_past f m k h
 
 pub count_past : (f : ℕ → Bool) (m k : ℕ) → ((i : ℕ) → m ≤ i → f i ≡ false) → count f (m + k) ≡ count f m
-unfolding count
 count_past f m zero h = let q : m + 0 ≡ m = omega arith in ap (count f) q
 count_past f m (suc k) h =
     let e = h (m + k) (omega arith) in
     let q : m + suc k ≡ suc (m + k) = omega arith in
     let s : count f (m + suc k) ≡ count f (suc (m + k)) = ap (count f) q in
-    let z : count f (suc (m + k)) ≡ count f (m + k) = rw e (omega arith) in
+    let z : count f (suc (m + k)) ≡ count f (m + k) = count-suc f (m + k) ∙ rw e (omega arith) in
     s ∙ z ∙ count_past f m k h
 
 pub count_append : (f : ℕ → Bool) (m k : ℕ) → count f (m + k) ≡ count f m + count (λ i. f (m + i)) k
-unfolding count
 count_append f m zero = let q : m + 0 ≡ m = omega arith in ap (count f) q ∙ omega arith
 count_append f m (suc k) =
     let q : m + suc k ≡ suc (m + k) = omega arith in
     let s : count f (m + suc k) ≡ count f (suc (m + k)) = ap (count f) q in
-    s ∙ ap (λ n. n + bit (f (m + k))) (count_append f m k) ∙ omega arith
+    let e = count_append f m k in
+    let a = count-suc f (m + k) in
+    let b = count-suc (λ i. f (m + i)) k in
+    s ∙ omega arith
 
 pub count_le : (f : ℕ → Bool) (k : ℕ) → count f k ≤ k
-unfolding count
-count_le f zero = omega arith
-count_le f (suc k) = let b = bit_lt (f k) in let e = count_le f k in omega arith
+count_le f k = let l = length-range_with_len 0 k in let c = count_by-le-length f (range_with_len 0 k) in omega arith
 
 packed_below_by : (f : ℕ → Bool) (m : ℕ) → ((i : ℕ) → m ≤ i → f i ≡ false) → (b : Bool) → leb 64 m ≡ b → packed f 64 < 2 ^ m
 packed_below_by f m h true e = let p : 2 ^ 64 ≤ 2 ^ m = pow_mono (leb-true 64 m e) in let q = packed_lt f 64 in omega arith

@@ -18,11 +18,11 @@ use Rattle.delay_file.proofs.Spellings.{four}
 use Rattle.delay_file.proofs.Written.{count_joined, record_joined, run_is}
 use Rattle.plan_file.specs.PlanReading.{plan, refused, plan_reading, head_good, word_at, good_words, words_good, ones_in, domain_bit, laid_out, be64}
 use Rattle.plan_file.specs.PlanRead.{ReadsAs, head_of}
-use Rattle.plan_file.specs.declared.plan_reader.Head.{Head}
+use Rattle.plan_file.specs.declared.head.Head.{Head}
 use Rattle.plan_file.specs.PlanRecords.{plan_bytes, plan_records, plan_length, head_record, word_record, domain_word, word_count, late_at, late_number, bit, count}
-use Rattle.plan_file.specs.Written.{ReadsBack, Wrote}
+use Rattle.plan_file.specs.Written.{ReadsAsWritten, ReadsBack, Wrote}
 use Rattle.plan_file.proofs.Layouts.{eight_back, head_spelled, word_spelled, number_lt}
-use Rattle.plan_file.proofs.Packed.{packed_same, packed_own, own_bit, packed_lt, packed_below, ones_packed, bit_of_packed, count_append, count_past, count_le, count_none}
+use Rattle.plan_file.proofs.Packed.{packed_same, packed_own, own_bit, packed_lt, packed_below, ones_packed, bit_of_packed, count_append, count_past, count_le}
 use Rattle.plan_file.proofs.Words.{good_at, was_read}
 use Rattle.plan_file.proofs.Writing.{plan_whole, plan_count, word_there, written_length}
 
@@ -36,7 +36,7 @@ late_there n ds r h = rw (lt-ltb r n h)
 -- the ones in words of domains are the late registers
 late_in_words : (bytes : List ℕ) (n : ℕ) (ds : List ℕ) (k : ℕ) → ((j : ℕ) → j < k → word_at bytes j ≡ domain_word n ds (64 * j)) → ones_in bytes k ≡ count (late_at n ds) (64 * k)
 unfolding ones_in
-late_in_words bytes n ds zero h = count_none (late_at n ds)
+late_in_words bytes n ds zero h = refl
 late_in_words bytes n ds (suc k) h =
     let e : 64 * suc k ≡ 64 * k + 64 = omega arith in
     ap₂ (λ x y. x + y) (late_in_words bytes n ds k (λ j l. h j (omega arith))) (ap ones (h k (omega arith)) ∙ ones_packed (λ i. late_at n ds (64 * k + i)) 64)
@@ -249,10 +249,10 @@ pub record Found (bytes : List ℕ) (h : Head) : Type 0 where
   pub whole : length bytes % 32 ≡ 0
   pub head : head_good (record_at bytes 0) ≡ true
   pub is : h ≡ head_of (record_at bytes 0)
-  pub words : words_good bytes h.registers ≡ true
-  pub late : h.late ≡ ones_in bytes (word_count h.registers)
+  pub words : words_good bytes h.numbers.registers ≡ true
+  pub late : h.late ≡ ones_in bytes (word_count h.numbers.registers)
 
-pub found : (bytes xs : List ℕ) (h : Head) (late : ℕ) → ((i : ℕ) → Fits w8 (get_or bytes i 0)) → length bytes % 32 ≡ 0 → xs ≡ record_at bytes 0 → Some h ≡ cond (head_good xs) (Some (head_of xs)) None → (words_good bytes h.registers ≡ true) × (late ≡ ones_in bytes (word_count h.registers)) → late ≡ h.late → Found bytes h
+pub found : (bytes xs : List ℕ) (h : Head) (late : ℕ) → ((i : ℕ) → Fits w8 (get_or bytes i 0)) → length bytes % 32 ≡ 0 → xs ≡ record_at bytes 0 → Some h ≡ cond (head_good xs) (Some (head_of xs)) None → (words_good bytes h.numbers.registers ≡ true) × (late ≡ ones_in bytes (word_count h.numbers.registers)) → late ≡ h.late → Found bytes h
 found bytes xs h late typed whole first read words same =
     let r = was_read (head_good xs) h (head_of xs) read in
     record {
@@ -268,58 +268,63 @@ module _ (bytes : List ℕ) (h : Head) (f : Found bytes h) where
   of_head : (g : Head → ℕ) → g (head_of (record_at bytes 0)) ≡ g h
   of_head g = ap g (sym f.is)
 
-  late_right : be32 (record_at bytes 0) 16 ≡ ones_in bytes (word_count h.registers)
+  late_right : be32 (record_at bytes 0) 16 ≡ ones_in bytes (word_count h.numbers.registers)
   late_right = of_head (λ g. g.late) ∙ f.late
 
-  limits : (laid_out 16 0 20 (record_at bytes 0) ≡ true) × (1 ≤ h.registers)
+  limits : (laid_out 16 0 20 (record_at bytes 0) ≡ true) × (1 ≤ h.numbers.registers)
   limits =
       let ys = record_at bytes 0 in
       let a = and_parts (laid_out 16 0 20 ys) _ f.head in
       let b = and_parts (period_within (be32 ys 4)) _ a.1 in
       let c = and_parts (offset_within (be32 ys 8)) _ b.1 in
       let d = and_parts (leb 1 (be32 ys 12)) _ c.1 in
-      let r = of_head (λ g. g.registers) in
+      let r = of_head (λ g. g.numbers.registers) in
       let l = leb-true _ _ d.0 in
       (a.0, omega arith)
 
-  pub room_for_words : word_count h.registers < record_count bytes
-  room_for_words = words_there bytes f.typed h.registers limits.1 f.words
+  pub room_for_words : word_count h.numbers.registers < record_count bytes
+  room_for_words = words_there bytes f.typed h.numbers.registers limits.1 f.words
 
-  pub read_short : (room : ℕ) → room < h.registers → plan_reading bytes room ≡ refused 9 None
-  read_short room l = good_short bytes h.period h.offset h.registers room (eq-eqb _ _ f.whole) f.head (of_head (λ g. g.period)) (of_head (λ g. g.offset)) (of_head (λ g. g.registers)) f.words late_right l
+  pub read_short : (room : ℕ) → room < h.numbers.registers → plan_reading bytes room ≡ refused 9 None
+  read_short room l = good_short bytes h.numbers.period h.numbers.offset h.numbers.registers room (eq-eqb _ _ f.whole) f.head (of_head (λ g. g.numbers.period)) (of_head (λ g. g.numbers.offset)) (of_head (λ g. g.numbers.registers)) f.words late_right l
 
-  module _ (was out : List ℕ) (long : h.registers ≤ length was) (filled : out ≡ map (domain_bit bytes) (range_with_len 0 h.registers) ++ drop h.registers was) where
-    front : length (map (domain_bit bytes) (range_with_len 0 h.registers)) ≡ h.registers
-    front = length-map-range_with_len (domain_bit bytes) 0 h.registers
+  module _ (was out : List ℕ) (long : h.numbers.registers ≤ length was) (filled : out ≡ map (domain_bit bytes) (range_with_len 0 h.numbers.registers) ++ drop h.numbers.registers was) where
+    front : length (map (domain_bit bytes) (range_with_len 0 h.numbers.registers)) ≡ h.numbers.registers
+    front = length-map-range_with_len (domain_bit bytes) 0 h.numbers.registers
 
-    pub read_granted : plan h.period h.offset h.registers (take h.registers out) ≡ plan_reading bytes (length was)
+    pub read_granted : plan h.numbers.period h.numbers.offset h.numbers.registers (take h.numbers.registers out) ≡ plan_reading bytes (length was)
     read_granted =
-        ap (plan h.period h.offset h.registers) (ap (take h.registers) filled ∙ take_at (map (domain_bit bytes) (range_with_len 0 h.registers)) (drop h.registers was) h.registers front)
-        ∙ sym (good_reads bytes h.period h.offset h.registers (length was) (eq-eqb _ _ f.whole) f.head (of_head (λ g. g.period)) (of_head (λ g. g.offset)) (of_head (λ g. g.registers)) f.words late_right long)
+        ap (plan h.numbers.period h.numbers.offset h.numbers.registers) (ap (take h.numbers.registers) filled ∙ take_at (map (domain_bit bytes) (range_with_len 0 h.numbers.registers)) (drop h.numbers.registers was) h.numbers.registers front)
+        ∙ sym (good_reads bytes h.numbers.period h.numbers.offset h.numbers.registers (length was) (eq-eqb _ _ f.whole) f.head (of_head (λ g. g.numbers.period)) (of_head (λ g. g.numbers.offset)) (of_head (λ g. g.numbers.registers)) f.words late_right long)
 
-    pub read_rest : drop h.registers out ≡ drop h.registers was
-    read_rest = ap (drop h.registers) filled ∙ drop_at (map (domain_bit bytes) (range_with_len 0 h.registers)) (drop h.registers was) h.registers front
+    pub read_rest : drop h.numbers.registers out ≡ drop h.numbers.registers was
+    read_rest = ap (drop h.numbers.registers) filled ∙ drop_at (map (domain_bit bytes) (range_with_len 0 h.numbers.registers)) (drop h.numbers.registers was) h.numbers.registers front
 
-    read_byte : (r : ℕ) → r < h.registers → get_or out r 0 ≡ domain_bit bytes r
+    read_byte : (r : ℕ) → r < h.numbers.registers → get_or out r 0 ≡ domain_bit bytes r
     read_byte r l =
         let n = front in
         ap (λ ys. get_or ys r 0) filled
-        ∙ get_or_append_left (map (domain_bit bytes) (range_with_len 0 h.registers)) (drop h.registers was) 0 r (omega arith)
-        ∙ get_or-map-range_with_len (domain_bit bytes) 0 h.registers r r 0 l (omega arith)
+        ∙ get_or_append_left (map (domain_bit bytes) (range_with_len 0 h.numbers.registers)) (drop h.numbers.registers was) 0 r (omega arith)
+        ∙ get_or-map-range_with_len (domain_bit bytes) 0 h.numbers.registers r r 0 l (omega arith)
 
-    head_own_numbers : record_at bytes 0 ≡ head_record h.period h.offset h.registers (ones_in bytes (word_count h.registers))
+    head_own_numbers : record_at bytes 0 ≡ head_record h.numbers.period h.numbers.offset h.numbers.registers (ones_in bytes (word_count h.numbers.registers))
     head_own_numbers =
         let ys = record_at bytes 0 in
         head_spelled ys (byte_lt bytes f.typed 0) limits.0
-        ∙ ap₂ (λ t o. head_record t o (be32 ys 12) (be32 ys 16)) (of_head (λ g. g.period)) (of_head (λ g. g.offset))
-        ∙ ap₂ (λ m l. head_record h.period h.offset m l) (of_head (λ g. g.registers)) late_right
+        ∙ ap₂ (λ t o. head_record t o (be32 ys 12) (be32 ys 16)) (of_head (λ g. g.numbers.period)) (of_head (λ g. g.numbers.offset))
+        ∙ ap₂ (λ m l. head_record h.numbers.period h.numbers.offset m l) (of_head (λ g. g.numbers.registers)) late_right
 
-    pub read_spelled : bytes ≡ plan_bytes h.period h.offset h.registers out
-    read_spelled = spelled_as_written bytes f.typed h.registers limits.1 f.words h.period h.offset out read_byte f.whole head_own_numbers
+    pub read_spelled : bytes ≡ plan_bytes h.numbers.period h.numbers.offset h.numbers.registers out
+    read_spelled = spelled_as_written bytes f.typed h.numbers.registers limits.1 f.words h.numbers.period h.numbers.offset out read_byte f.whole head_own_numbers
 
 -- the file that was written, at the front of the memory
-pub written_reads_back : (T s n : ℕ) (ds was out : List ℕ) (r : Result ℕ Refusal) → Wrote T s n ds was out r → ReadsBack T s n ds out r
-written_reads_back T s n ds was out (Ok k) w = λ fit room h.
+pub written_reads_back : (T s n : ℕ) (ds was out : List ℕ) (r : Result ℕ Refusal) → Period T → Offset s → RegisterCount n → Wrote T s n ds was out r → ReadsAsWritten T s n ds out r
+written_reads_back T s n ds was out (Ok k) period offset registers w = λ room h.
     let e : take k out ≡ plan_bytes T s n ds = ap₂ take w.0 w.2 ∙ take_at (plan_bytes T s n ds) (drop (plan_length n) was) (plan_length n) (written_length T s n ds) in
-    subst (λ bytes. ReadsAs bytes T s n ds room) (sym e) (reads_back T s n ds fit.period_within fit.offset_within fit.registers_within room h)
-written_reads_back T s n ds was out (Err f) w = tt
+    subst (λ bytes. ReadsAs bytes T s n ds room) (sym e) (reads_back T s n ds period offset registers room h)
+written_reads_back T s n ds was out (Err f) period offset registers w = tt
+
+-- so every plan that is fit for a file reads back
+pub fit_reads_back : (T s n : ℕ) (ds out : List ℕ) (r : Result ℕ Refusal) → ReadsAsWritten T s n ds out r → ReadsBack T s n ds out r
+fit_reads_back T s n ds out (Ok k) h = λ fit. h
+fit_reads_back T s n ds out (Err f) h = tt

@@ -1,9 +1,10 @@
 -- The words of a plan file: the steps and the ends of the loops over them.
-use Rattle.std.proofs.Common.{◌≡◌, ℕ, ◌+◌, ◌*◌, ◌<◌, ◌≤◌, Bool, true, false, cond, eqb, List, [], ◌∷◌, ◌++◌, map, length, get_or, drop, set, Some, None, Option, sym, refl, ap, ◌∙◌, append_assoc, add-one, arith}
+use Rattle.std.proofs.Common.{◌≡◌, ℕ, ◌+◌, ◌*◌, ◌<◌, ◌≤◌, Bool, true, false, cond, eqb, leb, List, [], ◌∷◌, ◌++◌, map, length, get_or, drop, set, Some, None, Option, unwrap_or, sym, refl, ap, ◌∙◌, append_assoc, add-one, arith}
 use lib.Count.{ones}
 use Rattle.std.specs.List.{range_with_len, prefix_len}
 use Rattle.std.proofs.lemmas.List.FromFn.{length-range_with_len, get_or-range_with_len, map-range_with_len_more, length-map-range_with_len}
-use Rattle.std.proofs.lemmas.List.{drop_more, set_at}
+use Rattle.std.proofs.Math.ListN.{drop_of_length-le}
+use Rattle.std.proofs.lemmas.List.{append-nil, drop_more, set_at}
 use Rattle.std.proofs.lemmas.List.Sums.{prefix_len-drop_yes, prefix_len-drop_no, prefix_len-drop_all}
 use Rattle.std.proofs.lemmas.Bool.{and_from, and_left, and_right, eq-eqb, ne_eqb, le-leb, lt-leb}
 use Rattle.delay_file.specs.Files.{record_at, record_count}
@@ -61,6 +62,15 @@ filled_more f was out i v h e q =
     ∙ ap (λ x. map f (range_with_len 0 i) ++ (x ∷ drop (i + 1) was)) q
     ∙ sym (append_assoc (map f (range_with_len 0 i)) (f i ∷ []) (drop (i + 1) was))
     ∙ ap (λ xs. xs ++ drop (i + 1) was) (sym (map-range_with_len_more f 0 i i (omega arith)))
+
+-- all registers in domain memory of so many
+pub filled_all : (f : ℕ → ℕ) (was out : List ℕ) (i n : ℕ) → i ≡ n → length was ≤ i → out ≡ map f (range_with_len 0 i) ++ drop i was → out ≡ map f (range_with_len 0 n)
+filled_all f was out i n e h q =
+    q ∙ ap (λ xs. map f (range_with_len 0 i) ++ xs) (drop_of_length-le was h) ∙ append-nil (map f (range_with_len 0 i)) ∙ ap (λ k. map f (range_with_len 0 k)) e
+
+-- a field that is there, as the code reads it
+pub field_there : (o : Option ℕ) (k n v : ℕ) → k ≤ n → o ≡ cond (leb k n) (Some v) None → unwrap_or o 0 ≡ v
+field_there o k n v h e = ap (λ x. unwrap_or x 0) (e ∙ ap (λ b. cond b (Some v) None) (le-leb k n h))
 
 -- a record that was read, or was not
 pub was_read : {X : Type 0} (b : Bool) (x y : X) → Some x ≡ cond b (Some y) None → (b ≡ true) × (x ≡ y)

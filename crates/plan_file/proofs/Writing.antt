@@ -6,7 +6,9 @@ use Rattle.std.proofs.lemmas.List.{drop-drop, take_all}
 use Rattle.delay_file.specs.Files.{joined}
 use Rattle.delay_file.proofs.Putting.{one_record}
 use Rattle.delay_file.proofs.Written.{Whole, length_joined}
-use Rattle.plan_file.specs.PlanRecords.{plan_records, plan_length, plan_bytes, word_record, domain_word, word_count, head_record, late_number}
+use Rattle.plan_file.specs.PlanRecords.{plan_records, plan_length, plan_bytes, word_record, domain_word, word_count, head_record, late_at, late_number}
+use Rattle.plan_file.specs.Written.{BitsAreRegisters, OnesAreLate}
+use Rattle.plan_file.proofs.Packed.{bit_of_packed, ones_packed}
 
 module _ (T s n : ℕ) (ds : List ℕ) where
   words_whole : (js : List ℕ) → AllByRecursion Whole (map (λ j. word_record (64 * j) (domain_word n ds (64 * j))) js)
@@ -53,3 +55,10 @@ module _ (T s n : ℕ) (ds : List ℕ) where
       ap (λ k. drop k start) a ∙ sym (drop-drop (word_count n * 32) 32 start) ∙ ap (drop (word_count n * 32)) (ap (drop 32) e)
       ∙ drop-drop (word_count n * 32) 32 was ∙ ap (λ k. drop k was) b in
       m ∙ ap₂ (λ x y. joined x ++ y) t d
+
+-- a word of a plan is what its registers say, whether or not it is written
+pub bits_are_registers : (n : ℕ) (ds : List ℕ) → BitsAreRegisters n ds
+bits_are_registers n ds first i h = bit_of_packed (λ (i : ℕ). late_at n ds (first + i)) 64 i h
+
+pub ones_are_late : (n : ℕ) (ds : List ℕ) → OnesAreLate n ds
+ones_are_late n ds first = ones_packed (λ (i : ℕ). late_at n ds (first + i)) 64

@@ -9,7 +9,7 @@ use Rattle.timing.specs.declared.pair.Pair.{Pair}
 use Rattle.timing.specs.declared.refusal.Part.{Part}
 use Rattle.timing.specs.declared.refusal.Part.TheVariants as part
 use Rattle.timing.specs.declared.refusal.Refusal.TheVariants.{DraftNotLegal}
-use Rattle.plan_file.specs.declared.checked.CheckedPlan.{CheckedPlan}
+use Rattle.plan_file.specs.declared.checked_plan.CheckedPlan.{CheckedPlan}
 use Rattle.plan_file.specs.declared.checked.RefusedDraft.{RefusedDraft}
 use Rattle.plan_file.specs.Drafts.{time_of}
 

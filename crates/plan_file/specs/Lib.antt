@@ -1,4 +1,6 @@
+pub mod CheckedPlan
 pub mod Checks
+pub mod Draft
 pub mod Drafts
 pub mod Found
 pub mod Laws

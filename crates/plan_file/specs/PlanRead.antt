@@ -5,7 +5,7 @@ use Rattle.timing.specs.Table.{refusal_number}
 use Rattle.delay_file.specs.Bytes.{be32}
 use Rattle.delay_file.specs.declared.fault.Fault.{Fault}
 use Rattle.plan_file.specs.declared.plan_reader.PlanNumbers.{PlanNumbers}
-use Rattle.plan_file.specs.declared.plan_reader.Head.{Head}
+use Rattle.plan_file.specs.declared.head.Head.{Head}
 use Rattle.plan_file.specs.PlanReading.{PlanReading, plan, refused, plan_reading, words_good, good_words, ones_in}
 use Rattle.plan_file.specs.PlanRecords.{word_count}
 
@@ -21,7 +21,10 @@ RestStays was out (Err f) = out ≡ was
 
 -- the four numbers of a head
 abbrev pub head_of : List ℕ → Head
-head_of xs = record { period = be32 xs 4; offset = be32 xs 8; registers = be32 xs 12; late = be32 xs 16 }
+head_of xs = record {
+  numbers = record { period = be32 xs 4; offset = be32 xs 8; registers = be32 xs 12 };
+  late = be32 xs 16;
+}
 
 -- what the code finds of the words of a file with n registers: how many ones they have, or the record at fault
 abbrev pub WordsFound : List ℕ → ℕ → Result ℕ Fault → Type 0

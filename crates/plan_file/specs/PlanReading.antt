@@ -3,12 +3,10 @@ use Rattle.std.specs.Prelude.{ℕ, zero, suc, ◌+◌, ◌-◌, ◌*◌, ◌/◌
 use Rattle.std.specs.List.{range_with_len, prefix_len}
 use Rattle.timing.specs.Outcomes.{period_within, offset_within}
 use Rattle.delay_file.specs.Bytes.{be32, every, is_zero}
+-- the number in the eight bytes from byte i on, the most significant first
+pub use Rattle.delay_file.specs.Bytes.{be64}
 use Rattle.delay_file.specs.Files.{record_at, record_count}
 use Rattle.plan_file.specs.PlanRecords.{word_count}
-
--- the number in the eight bytes from byte i on, the most significant first
-abbrev pub be64 : List ℕ → ℕ → ℕ
-be64 xs i = be32 xs i * 4294967296 + be32 xs (i + 4)
 
 -- a record of this kind, with this byte 1, whose fields end before byte `end`: all other bytes are zero
 abbrev pub laid_out : ℕ → ℕ → ℕ → List ℕ → Bool

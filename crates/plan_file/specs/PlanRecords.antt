@@ -1,6 +1,6 @@
 -- The records of a plan file: a head, and a word of domains for each 64 registers.
 use Rattle.std.specs.Prelude.{ℕ, zero, suc, ◌+◌, ◌*◌, ◌/◌, ◌%◌, ◌^◌, Bool, cond, ◌&&◌, List, [], ◌∷◌, ◌++◌, map, replicate, ◌==◌, count_ones, nat_lt, slice_index}
-use Rattle.std.specs.List.{range_with_len}
+use Rattle.std.specs.List.{count_by, range_with_len}
 use Rattle.delay_file.specs.Bytes.{bytes_of}
 use Rattle.delay_file.specs.Files.{joined}
 
@@ -17,9 +17,8 @@ packed f zero = 0
 packed f (suc k) = packed f k + bit (f k) * 2 ^ k
 
 -- how many of f 0 to f (k - 1) hold
-unfoldable pub count : (ℕ → Bool) → ℕ → ℕ
-count f zero = 0
-count f (suc k) = count f k + bit (f k)
+abbrev pub count : (ℕ → Bool) → ℕ → ℕ
+count f k = count_by f (range_with_len 0 k)
 
 -- the word of the 64 registers from `first` on: bit i is set where register first + i is late
 abbrev pub domain_word : ℕ → List ℕ → ℕ → ℕ

@@ -29,6 +29,11 @@ pub record Writable (T s n : ℕ) (ds : List ℕ) : Type 0 where
   pub domains_long : n ≤ length ds
 
 -- The file that was written reads back as the same plan, given memory for its registers.
+abbrev pub ReadsAsWritten : ℕ → ℕ → ℕ → List ℕ → List ℕ → Result ℕ Refusal → Type 0
+ReadsAsWritten T s n ds out (Ok k) = (room : ℕ) → n ≤ room → ReadsAs (take k out) T s n ds room
+ReadsAsWritten T s n ds out (Err f) = Unit {0}
+
+-- the same of every plan that is fit for a file
 abbrev pub ReadsBack : ℕ → ℕ → ℕ → List ℕ → List ℕ → Result ℕ Refusal → Type 0
 ReadsBack T s n ds out (Ok k) = Writable T s n ds → (room : ℕ) → n ≤ room → ReadsAs (take k out) T s n ds room
 ReadsBack T s n ds out (Err f) = Unit {0}

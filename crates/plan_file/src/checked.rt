@@ -1,49 +1,15 @@
-ghost use Rattle.plan_file.specs.Checks.{KeptDraft, checked_as};
-ghost use Rattle.plan_file.specs.Drafts.{check_answer};
-ghost use Rattle.timing.specs.Plans.{domains_of};
-ghost use Rattle.plan_file.specs.Laws.{NamesFirst, Ready};
-ghost use Rattle.plan_file.specs.PlanRecords.{plan_length};
-ghost use Rattle.plan_file.specs.Written.{BitsAreRegisters, OnesAreLate, ReadsBack, Writable, Wrote};
-ghost use Rattle.std.specs.Prelude.{◌≡◌, is_ok, IfOk, Decides};
+ghost use Rattle.plan_file.specs.Checks.{IsLegal, IsReady, IsWritable, Keeps, NamesBroken, checked_as};
+ghost use Rattle.plan_file.specs.Draft.{draft_answer};
+ghost use Rattle.std.specs.Prelude.{◌≡◌, ◌↔◌, IfOk, IsOk};
 ghost use Rattle.timing.specs.Outcomes.{told};
-ghost use Rattle.timing.specs.Plans.{Legal};
 
+pub use crate::checked_plan::CheckedPlan;
 use crate::draft::Draft;
 use crate::first_broken::first_broken;
-use crate::plan_records::{plan_length, write_plan};
-use timing::limits::{MAX_OFFSET, MAX_PERIOD};
+use timing::limits::{check_offset, check_period};
 use timing::readable::check_readable;
 use timing::refusal::Refusal;
 use timing::source::DelaySource;
-
-// A plan that was found legal. Its fields are private and only `check` makes one, so there is no other way to have one.
-#[derive(Drop)]
-pub struct CheckedPlan<'d> {
-    period: u32,
-    offset: u32,
-    registers: u32,
-    domains: &'d [u8],
-}
-
-impl CheckedPlan<'_> {
-    // How many bytes the plan takes in a file.
-    pub fn file_length(&self) -> usize
-        ensures { result ≡ plan_length self.now.registers }
-    {
-        plan_length(self.registers)
-    }
-
-    // Writes the plan as a file: a head, and a record for each 64 registers. What lies behind it stays as it was. Memory
-    // that is too short is refused with 9, and stays whole. The file reads back as the same plan.
-    pub fn write(&self, out: &mut [u8]) -> Result<usize, Refusal>
-        ensures wrote { Wrote self.now.period self.now.offset self.now.registers self.now.domains.now out.old out.new result }
-        ensures reads_back { ReadsBack self.now.period self.now.offset self.now.registers self.now.domains.now out.new result }
-        ensures bits { BitsAreRegisters self.now.registers self.now.domains.now }
-        ensures ones { OnesAreLate self.now.registers self.now.domains.now }
-    {
-        write_plan(self.period, self.offset, self.registers, self.domains, out)
-    }
-}
 
 // A draft that was refused, handed back to its owner as it was.
 #[derive(Drop)]
@@ -60,26 +26,17 @@ pub fn check<'d, S: DelaySource>(
     ceiling: u32,
     draft: Draft<'d>,
 ) -> Result<CheckedPlan<'d>, RefusedDraft<'d>>
-    ensures answer { checked_as result ≡ check_answer (S.meaning source.now) pins.now ceiling draft.entry.period draft.entry.offset draft.entry.domains.now }
-    ensures legal { Ready (S.meaning source.now) pins.now ceiling draft.entry.period draft.entry.offset draft.entry.domains.now → Decides (is_ok result) (Legal (S.meaning source.now) pins.now ceiling draft.entry.period draft.entry.offset (domains_of draft.entry.domains.now)) }
-    ensures first { Ready (S.meaning source.now) pins.now ceiling draft.entry.period draft.entry.offset draft.entry.domains.now → NamesFirst (S.meaning source.now) pins.now ceiling draft.entry.period draft.entry.offset draft.entry.domains.now result }
-    ensures writable { IfOk result (λ plan. Writable plan.period plan.offset plan.registers plan.domains.now) }
-    ensures same { KeptDraft (S.meaning source.now).registers draft.entry.period draft.entry.offset draft.entry.domains.now result }
+    ensures answer { checked_as result ≡ draft_answer (S.meaning source.now) pins.now ceiling draft.entry }
+
+    // Where nothing stands in the way of a judgement.
+    ensures legal { IsReady (S.meaning source.now) pins.now ceiling draft.entry → (IsOk result ↔ IsLegal (S.meaning source.now) pins.now ceiling draft.entry) }
+    ensures first { IsReady (S.meaning source.now) pins.now ceiling draft.entry → NamesBroken (S.meaning source.now) pins.now ceiling draft.entry result }
+
+    ensures writable { IfOk result IsWritable }
+    ensures same { Keeps (S.meaning source.now).registers draft.entry result }
 {
     match judge(source, pins, ceiling, &draft) {
-        Ok(()) => {
-            let Draft {
-                period,
-                offset,
-                domains,
-            } = draft;
-            Ok(CheckedPlan {
-                period,
-                offset,
-                registers: source.register_count(),
-                domains,
-            })
-        }
+        Ok(()) => Ok(CheckedPlan::new(draft, source.register_count())),
         Err(refusal) => Err(RefusedDraft { refusal, draft }),
     }
 }
@@ -91,25 +48,18 @@ fn judge<S: DelaySource>(
     ceiling: u32,
     draft: &Draft<'_>,
 ) -> Result<(), Refusal>
-    ensures { told result ≡ check_answer (S.meaning source.now) pins.now ceiling draft.now.period draft.now.offset draft.now.domains.now }
+    ensures { told result ≡ draft_answer (S.meaning source.now) pins.now ceiling draft.now }
 {
-    if draft.period < 1 || draft.period > MAX_PERIOD {
-        return Err(Refusal::PeriodOutOfLimits);
-    }
-    if ceiling > MAX_OFFSET || draft.offset > MAX_OFFSET {
-        return Err(Refusal::OffsetOutOfLimits);
-    }
+    check_period(draft.period)?;
+    check_offset(ceiling)?;
+    check_offset(draft.offset)?;
     check_readable(source)?;
     let registers = source.register_count() as usize;
     if pins.len() < registers || draft.domains.len() < registers {
         return Err(Refusal::MemoryTooShort);
     }
     match first_broken(source, pins, ceiling, draft) {
-        Some(broken) => Err(Refusal::DraftNotLegal {
-            part: broken.part,
-            place: broken.place,
-            excess: broken.excess,
-        }),
+        Some(broken) => Err(broken.into()),
         None => Ok(()),
     }
 }

@@ -1,10 +1,8 @@
-ghost use Rattle.timing.specs.Delays.{slack};
-ghost use Rattle.timing.specs.Plans.{domain_of};
-ghost use Rattle.plan_file.specs.Drafts.{time_of};
-ghost use Rattle.plan_file.specs.PlanRecords.{late_number};
-ghost use Rattle.std.specs.Prelude.{◌≡◌, slice_index};
+ghost use Rattle.timing.specs.Plans.{domains_of};
+ghost use Rattle.plan_file.specs.Draft.{draft_slack, draft_time};
+ghost use Rattle.plan_file.specs.PlanRecords.{domain_word, late_at, late_number};
+ghost use Rattle.std.specs.Prelude.{◌≡◌, ◌+◌, ◌^◌, ◌<◌};
 
-use crate::domain_word::late_number;
 use timing::domain::Domain;
 use timing::pair::Pair;
 
@@ -20,26 +18,23 @@ pub struct Draft<'d> {
 impl Draft<'_> {
     // The domain of a register; one past the memory is early.
     pub fn domain(&self, register: u32) -> Domain
-        ensures { result ≡ domain_of (slice_index self.now.domains.now register) }
+        ensures { result ≡ domains_of self.now.domains.now register }
     {
-        let at = register as usize;
-        if at < self.domains.len() && self.domains[at] == 1 {
-            Domain::Late
-        } else {
-            Domain::Early
-        }
+        self.domains
+            .get(register as usize)
+            .map_or(Domain::Early, |&byte| Domain::from(byte))
     }
 
     // When a register is clocked.
     pub fn clock_time(&self, register: u32) -> i64
-        ensures { result ≡ time_of self.now.offset self.now.domains.now register }
+        ensures { result ≡ draft_time self.now register }
     {
         self.domain(register).clock_time(self.offset)
     }
 
     // What a pair has to spare: the smaller of its setup and its hold slack.
     pub fn slack(&self, pair: Pair) -> i128
-        ensures { result ≡ slack pair self.now.period (time_of self.now.offset self.now.domains.now pair.launch) (time_of self.now.offset self.now.domains.now pair.capture) }
+        ensures { result ≡ draft_slack self.now pair }
     {
         let launch = self.clock_time(pair.launch);
         let capture = self.clock_time(pair.capture);
@@ -51,6 +46,30 @@ impl Draft<'_> {
     pub fn late_count(&self, registers: u32) -> u32
         ensures { result ≡ late_number registers self.now.domains.now }
     {
-        late_number(self.domains, registers)
+        (0..registers)
+            .filter(|&register| self.is_late(registers, register))
+            .count() as u32
+    }
+
+    // The word of the 64 registers from `first` on: which of them are late.
+    pub(crate) fn word(&self, registers: u32, first: u32) -> u64
+        requires { first + 64 < 2 ^ 32 }
+        ensures { result ≡ domain_word registers self.now.domains.now first }
+    {
+        let mut word: u64 = 0;
+        // A fold over the late ones of 64 bits is no plainer: it sets each of them as this loop does.
+        for i in 0..64 {
+            if self.is_late(registers, first + i) {
+                word |= 1 << i;
+            }
+        }
+        word
+    }
+
+    // Whether a register is one of so many and late.
+    fn is_late(&self, registers: u32, register: u32) -> bool
+        ensures { result ≡ late_at registers self.now.domains.now register }
+    {
+        register < registers && self.domain(register) == Domain::Late
     }
 }

@@ -1,16 +1,18 @@
 // The first limit that a draft breaks: the ceiling, then the pins, then the entries.
-ghost use Rattle.std.specs.Prelude.{◌≡◌, ◌≤◌, length, negsuc, ◌≤ℤ◌};
-ghost use Rattle.plan_file.specs.Drafts.{Verdict, entries_from, pin_met, pins_from, time_of, verdict};
-ghost use Rattle.plan_file.specs.Found.{by_pin, found_as};
-ghost use Rattle.std.specs.List.{range_with_len};
+ghost use Rattle.std.specs.Prelude.{◌≡◌, ◌≤◌, negsuc, ◌≤ℤ◌, not};
+ghost use Rattle.plan_file.specs.Draft.{draft_time, draft_verdict};
+ghost use Rattle.plan_file.specs.Drafts.{entries_from};
+ghost use Rattle.plan_file.specs.Found.{found_as, is_met};
+ghost use Rattle.std.specs.List.{find, range_with_len};
 ghost use Rattle.timing.specs.Bounds.{greatest_delay, least_delay};
 ghost use Rattle.timing.specs.Slacks.{excess, limit_slack};
+ghost use Rattle.timing.specs.declared.refusal.Refusal.TheVariants.{DraftNotLegal};
 
 use crate::draft::Draft;
-use timing::domain::Domain;
+use timing::domain::{Domain, FREE};
 use timing::limit::Limit;
 use timing::pair::Pair;
-use timing::refusal::Part;
+use timing::refusal::{Part, Refusal};
 use timing::source::DelaySource;
 
 // A part of a draft that is broken, where, and by how much.
@@ -21,12 +23,24 @@ pub(crate) struct Broken {
     pub excess: u32,
 }
 
+impl From<Broken> for Refusal {
+    ghost from_gives = { λ b f. f ≡ DraftNotLegal b.part b.place b.excess };
+
+    fn from(broken: Broken) -> Refusal {
+        Refusal::DraftNotLegal {
+            part: broken.part,
+            place: broken.place,
+            excess: broken.excess,
+        }
+    }
+}
+
 // By how much a limit of a lawful pair is broken under a draft; 0 where it is kept.
 fn limit_excess(limit: Limit, pair: Pair, draft: &Draft<'_>) -> u32
     requires min { least_delay ≤ℤ pair.min }
     requires max { pair.max ≤ℤ greatest_delay }
     requires offset { draft.now.offset ≤ 1000000 }
-    ensures { result ≡ excess (limit_slack limit pair draft.now.period (time_of draft.now.offset draft.now.domains.now pair.launch) (time_of draft.now.offset draft.now.domains.now pair.capture)) }
+    ensures { result ≡ excess (limit_slack limit pair draft.now.period (draft_time draft.now pair.launch) (draft_time draft.now pair.capture)) }
 {
     let launch = draft.clock_time(pair.launch);
     let capture = draft.clock_time(pair.capture);
@@ -38,19 +52,18 @@ fn excess_of(slack: i128) -> u32
     requires { negsuc 1999999 ≤ℤ slack }
     ensures { result ≡ excess slack }
 {
-    if slack < 0 { (-slack) as u32 } else { 0 }
+    u32::try_from(-slack).unwrap_or(0)
 }
 
 // The first broken limit of an entry, by place, setup before hold.
 fn broken_limit<S: DelaySource>(source: &S, draft: &Draft<'_>) -> Option<Broken>
     requires { draft.now.offset ≤ 1000000 }
-    ensures { found_as result ≡ entries_from draft.now.period (time_of draft.now.offset draft.now.domains.now) 0 (S.meaning source.now).entries }
+    ensures { found_as result ≡ entries_from draft.now.period (draft_time draft.now) 0 (S.meaning source.now).entries }
 {
     let mut found = None;
     'entries: for place in 0..source.entry_count() {
-        let pair = match source.entry(place) {
-            Ok(pair) => pair,
-            Err(_) => continue 'entries,
+        let Ok(pair) = source.entry(place) else {
+            continue;
         };
         for limit in [Limit::Setup, Limit::Hold] {
             let excess = limit_excess(limit, pair, draft);
@@ -67,27 +80,22 @@ fn broken_limit<S: DelaySource>(source: &S, draft: &Draft<'_>) -> Option<Broken>
     found
 }
 
-// Whether a domain is the one that a pin byte asks for.
-fn is_pin_met(pin: u8, domain: Domain) -> bool
-    ensures { result ≡ pin_met pin domain }
+// Whether a register is in the domain that its pin byte asks for. A register past the pins is free.
+fn is_pin_met(pins: &[u8], draft: &Draft<'_>, register: u32) -> bool
+    ensures { result ≡ is_met pins.now draft.now.domains.now register }
 {
-    match domain {
-        Domain::Early => pin != 1,
-        Domain::Late => pin != 0,
+    let pin = pins.get(register as usize).copied().unwrap_or(FREE);
+    match draft.domain(register) {
+        Domain::Early => pin != Domain::Late.byte(),
+        Domain::Late => pin != Domain::Early.byte(),
     }
 }
 
 // The first register that is not in its pinned domain.
 fn broken_pin(pins: &[u8], draft: &Draft<'_>, registers: u32) -> Option<u32>
-    requires { registers ≤ length pins.now }
-    ensures { (rest : Verdict) → pins_from pins.now draft.now.domains.now (range_with_len 0 registers) rest ≡ by_pin result rest }
+    ensures { result ≡ find (λ r. not (is_met pins.now draft.now.domains.now r)) (range_with_len 0 registers) }
 {
-    for register in 0..registers {
-        if !is_pin_met(pins[register as usize], draft.domain(register)) {
-            return Some(register);
-        }
-    }
-    None
+    (0..registers).find(|&register| !is_pin_met(pins, draft, register))
 }
 
 // The first limit of all that a draft breaks.
@@ -97,9 +105,8 @@ pub(crate) fn first_broken<S: DelaySource>(
     ceiling: u32,
     draft: &Draft<'_>,
 ) -> Option<Broken>
-    requires pins { (S.meaning source.now).registers ≤ length pins.now }
-    requires offset { draft.now.offset ≤ 1000000 }
-    ensures { found_as result ≡ verdict (S.meaning source.now) pins.now ceiling draft.now.period draft.now.offset draft.now.domains.now }
+    requires { draft.now.offset ≤ 1000000 }
+    ensures { found_as result ≡ draft_verdict (S.meaning source.now) pins.now ceiling draft.now }
 {
     if draft.offset > ceiling {
         return Some(Broken {

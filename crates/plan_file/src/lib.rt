@@ -2,9 +2,10 @@
 #![tactic(auto)]
 
 pub mod checked;
-mod domain_word;
+pub mod checked_plan;
 pub mod draft;
 mod first_broken;
+mod head;
 pub mod plan_reader;
 mod plan_records;
 pub mod slack;

@@ -1,23 +1,24 @@
 // Plan files, read: the records of a file, one by one, and the domains that its words hold.
-ghost use Rattle.std.specs.Prelude.{◌≡◌, ◌+◌, ◌^◌, ◌<◌, ◌≤◌, ◌&&◌, ◌++◌, map, length, drop, IfOk, if◌then◌else◌, Some, None, nat_le, nat_lt};
-ghost use Rattle.delay_file.specs.Bytes.{be32};
-ghost use Rattle.plan_file.specs.PlanRead.{RestStays, WordsFound, head_of, read_as};
-ghost use Rattle.plan_file.specs.PlanReading.{be64, domain_bit, head_good, laid_out, plan_reading, word_good};
+ghost use Rattle.std.specs.Prelude.{◌≡◌, ◌^◌, ◌<◌, ◌≤◌, ◌&&◌, ◌++◌, map, length, drop, IfOk, if◌then◌else◌, Some, None, nat_le, nat_lt};
+ghost use Rattle.plan_file.specs.PlanRead.{RestStays, WordsFound, read_as};
+ghost use Rattle.delay_file.specs.Bytes.{be64};
+ghost use Rattle.plan_file.specs.PlanReading.{domain_bit, plan_reading, word_good};
 ghost use Rattle.delay_file.specs.Files.{record_count};
 ghost use Rattle.plan_file.specs.PlanRecords.{plan_bytes, word_count};
 ghost use Rattle.std.specs.List.{range_with_len};
 ghost use Rattle.timing.specs.Outcomes.{offset_within, period_within};
 
 use crate::draft::Draft;
-use crate::plan_records::{HEAD, WORD, word_count};
+use crate::head::Head;
+use crate::plan_records::{is_laid_out, word_count};
 use delay_file::fault::Fault;
-use delay_file::fields::all_zero;
-use delay_file::layout::{RECORD_BYTES, record_bytes};
-use timing::limits::{MAX_OFFSET, MAX_PERIOD, MAX_REGISTERS};
+use delay_file::fields::{number_at, word_at};
+use delay_file::layout::{Kind, RECORD_BYTES, record_bytes};
+use timing::limits::{MAX_REGISTERS, check_offset, check_period};
 use timing::refusal::Refusal;
 
 // The numbers of a plan that was read. Nobody has checked it, so it is only good for a draft.
-#[derive(Clone, Copy)]
+#[derive(Clone, Copy, PartialEq, Eq, Debug)]
 pub struct PlanNumbers {
     pub period: u32,
     pub offset: u32,
@@ -35,6 +36,15 @@ impl PlanNumbers {
             domains,
         }
     }
+
+    // Whether these are the numbers of a plan file.
+    pub(crate) fn is_within_limits(self) -> bool
+        ensures { result ≡ period_within self.period && (offset_within self.offset && (nat_le 1 self.registers && nat_le self.registers 4096)) }
+    {
+        check_period(self.period).is_ok()
+            && check_offset(self.offset).is_ok()
+            && (1..=MAX_REGISTERS).contains(&self.registers)
+    }
 }
 
 // Reads a plan file: its numbers, and a byte of domain memory for each of its registers, 1 where it is late and 0 where
@@ -48,62 +58,18 @@ pub fn read_plan(bytes: &[u8], domains: &mut [u8]) -> Result<PlanNumbers, Fault>
     if bytes.len() % RECORD_BYTES != 0 {
         return Err(Fault::of_file(Refusal::NotWholeRecords));
     }
-    let Some(head) = head_in(record_bytes(bytes, 0)) else {
+    let Some(head) = Head::read(record_bytes(bytes, 0)) else {
         return Err(Fault::at(Refusal::MalformedRecord, 0));
     };
-    if ones_in_words(bytes, head.registers)? != head.late {
+    let numbers = head.numbers;
+    if ones_in_words(bytes, numbers.registers)? != head.late {
         return Err(Fault::at(Refusal::MalformedRecord, 0));
     }
-    if domains.len() < head.registers as usize {
+    if domains.len() < numbers.registers as usize {
         return Err(Fault::of_file(Refusal::MemoryTooShort));
     }
-    fill_domains(bytes, head.registers, domains);
-    Ok(PlanNumbers {
-        period: head.period,
-        offset: head.offset,
-        registers: head.registers,
-    })
-}
-
-// The numbers in the head of a file.
-#[derive(Clone, Copy)]
-pub(crate) struct Head {
-    pub period: u32,
-    pub offset: u32,
-    pub registers: u32,
-    pub late: u32,
-}
-
-impl Head {
-    fn is_within_limits(self) -> bool
-        ensures { result ≡ period_within self.period && (offset_within self.offset && (nat_le 1 self.registers && nat_le self.registers 4096)) }
-    {
-        self.period >= 1
-            && self.period <= MAX_PERIOD
-            && self.offset <= MAX_OFFSET
-            && self.registers >= 1
-            && self.registers <= MAX_REGISTERS
-    }
-}
-
-// The head in a record, if it is one and its numbers keep their limits. Its late number is not judged here.
-fn head_in(record: &[u8]) -> Option<Head>
-    ensures { result ≡ (if head_good «record».now then Some (head_of «record».now) else None) }
-{
-    if !is_laid_out(record, HEAD, 0, 20) {
-        return None;
-    }
-    let head = Head {
-        period: number_at(record, 4),
-        offset: number_at(record, 8),
-        registers: number_at(record, 12),
-        late: number_at(record, 16),
-    };
-    if head.is_within_limits() {
-        Some(head)
-    } else {
-        None
-    }
+    fill_domains(bytes, numbers.registers, domains);
+    Ok(numbers)
 }
 
 // How many ones the words of a file have, if each record behind its head is as it should be; else the first that is not.
@@ -115,10 +81,10 @@ fn ones_in_words(bytes: &[u8], registers: u32) -> Result<u32, Fault>
     let mut late = 0;
     for word in 0..words {
         let record = 1 + word;
-        late += match word_in(record_bytes(bytes, record), 64 * word as u32, registers) {
-            Some(bits) => bits.count_ones(),
-            None => return Err(Fault::at(Refusal::MalformedRecord, record)),
+        let Some(bits) = word_in(record_bytes(bytes, record), 64 * word as u32, registers) else {
+            return Err(Fault::at(Refusal::MalformedRecord, record));
         };
+        late += bits.count_ones();
     }
     if bytes.len() / RECORD_BYTES > 1 + words {
         return Err(Fault::at(Refusal::MalformedRecord, 1 + words));
@@ -130,19 +96,12 @@ fn ones_in_words(bytes: &[u8], registers: u32) -> Result<u32, Fault>
 fn word_in(record: &[u8], first: u32, registers: u32) -> Option<u64>
     ensures { result ≡ (if word_good registers first «record».now then Some (be64 «record».now 8) else None) }
 {
-    if record.len() != RECORD_BYTES {
-        return None;
-    }
-    let word = word_at(record, 8);
+    let word = word_at(record, 8)?;
     let ones = word.count_ones() as u8;
-    if is_laid_out(record, WORD, ones, 16)
-        && number_at(record, 4) == first
-        && is_below_bit(word, registers.saturating_sub(first))
-    {
-        Some(word)
-    } else {
-        None
-    }
+    let is_good = is_laid_out(record, Kind::Word, ones, 16)
+        && number_at(record, 4)? == first
+        && is_below_bit(word, registers.saturating_sub(first));
+    is_good.then_some(word)
 }
 
 // Whether a word has no bits from this one on.
@@ -152,49 +111,14 @@ fn is_below_bit(word: u64, bits: u32) -> bool
     bits >= 64 || word >> bits == 0
 }
 
-// Whether a record is of a kind and has this byte 1, and all bytes that its fields leave are zero.
-fn is_laid_out(record: &[u8], kind: u8, second: u8, end: usize) -> bool
-    requires { end ≤ 32 }
-    ensures { result ≡ laid_out kind second end «record».now }
-{
-    if record.len() != RECORD_BYTES {
-        return false;
-    }
-    let [first, count, reserved2, reserved3, ..] = record else {
-        return false;
-    };
-    if *first != kind || *count != second || *reserved2 != 0 || *reserved3 != 0 {
-        return false;
-    }
-    all_zero(&record[end..])
-}
-
-// The number in the four bytes from `at` on.
-fn number_at(bytes: &[u8], at: usize) -> u32
-    requires { at + 4 ≤ length bytes.now }
-    ensures { result ≡ be32 bytes.now at }
-{
-    u32::from_be_bytes([bytes[at], bytes[at + 1], bytes[at + 2], bytes[at + 3]])
-}
-
-// The number in the eight bytes from `at` on.
-fn word_at(bytes: &[u8], at: usize) -> u64
-    requires { at + 8 ≤ length bytes.now }
-    ensures { result ≡ be64 bytes.now at }
-{
-    let high = u64::from(number_at(bytes, at));
-    let low = u64::from(number_at(bytes, at + 4));
-    high * 4_294_967_296 + low
-}
-
 // Fills domain memory from the words of a file, a byte for each register.
 fn fill_domains(bytes: &[u8], registers: u32, domains: &mut [u8])
     requires room { registers ≤ length domains.old }
     requires words { word_count registers < record_count bytes.now }
     ensures { domains.new ≡ map (domain_bit bytes.now) (range_with_len 0 registers) ++ drop registers domains.old }
 {
-    for register in 0..registers as usize {
-        let word = word_at(record_bytes(bytes, 1 + register / 64), 8);
-        domains[register] = ((word >> (register % 64)) % 2) as u8;
+    for (register, domain) in domains[..registers as usize].iter_mut().enumerate() {
+        let word = word_at(record_bytes(bytes, 1 + register / 64), 8).unwrap_or(0);
+        *domain = ((word >> (register % 64)) % 2) as u8;
     }
 }

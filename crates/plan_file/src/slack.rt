@@ -1,9 +1,9 @@
-ghost use Rattle.plan_file.specs.Drafts.{slack_answer};
+ghost use Rattle.plan_file.specs.Draft.{draft_slack_answer};
 ghost use Rattle.timing.specs.Outcomes.{told};
 ghost use Rattle.std.specs.Prelude.{◌≡◌};
 
 use crate::draft::Draft;
-use timing::limits::{MAX_OFFSET, MAX_PERIOD};
+use timing::limits::{check_offset, check_period};
 use timing::readable::first_faulty;
 use timing::refusal::Refusal;
 use timing::source::DelaySource;
@@ -14,27 +14,16 @@ pub fn slack_at<S: DelaySource>(
     draft: &Draft<'_>,
     place: usize,
 ) -> Result<i128, Refusal>
-    ensures { told result ≡ slack_answer (S.meaning source.now) draft.now.period draft.now.offset draft.now.domains.now place }
+    ensures { told result ≡ draft_slack_answer (S.meaning source.now) draft.now place }
 {
-    if draft.period < 1 || draft.period > MAX_PERIOD {
-        return Err(Refusal::PeriodOutOfLimits);
-    }
-    if draft.offset > MAX_OFFSET {
-        return Err(Refusal::OffsetOutOfLimits);
-    }
+    check_period(draft.period)?;
+    check_offset(draft.offset)?;
     if let Some(place) = first_faulty(source) {
         return Err(Refusal::FaultyEntry { place });
     }
     if draft.domains.len() < source.register_count() as usize {
         return Err(Refusal::MemoryTooShort);
     }
-    match source.entry(place) {
-        Ok(pair) => {
-            let launch = draft.clock_time(pair.launch);
-            let capture = draft.clock_time(pair.capture);
-            let setup = pair.setup_slack(draft.period, launch, capture);
-            Ok(setup.min(pair.hold_slack(launch, capture)))
-        }
-        Err(_) => Err(Refusal::NoSuchEntry),
-    }
+    let pair = source.entry(place).map_err(|_| Refusal::NoSuchEntry)?;
+    Ok(draft.slack(pair))
 }

@@ -1,5 +1,5 @@
 pub mod Digits
 pub mod Lines
 pub mod Names
-pub mod Puts
+pub mod Pushes
 pub mod Whole

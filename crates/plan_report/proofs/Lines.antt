@@ -5,16 +5,18 @@ use Rattle.std.proofs.lemmas.List.FromFn.{map-range_with_len_more}
 use Rattle.std.proofs.lemmas.Bool.{and_parts, leb-true}
 use Rattle.timing.specs.declared.domain.Domain.{Domain}
 use Rattle.timing.specs.declared.domain.Domain.TheVariants.{Early, Late}
+use Rattle.timing.specs.Domains.{domain_name}
 use Rattle.timing.specs.Plans.{domains_of}
 use Rattle.delay_file.specs.Bytes.{every, graphic}
 use Rattle.delay_file.specs.Files.{joined, register_run}
 use Rattle.delay_file.specs.Records.{lawful_name}
 use Rattle.delay_file.proofs.Written.{joined_push}
-use Rattle.plan_report.specs.Report.{head_line, domain_name, register_line, name_at, register_lines}
-use Rattle.plan_report.specs.Reports.{Puts}
+use Rattle.plan_report.specs.Report.{head_line, register_line, name_at, register_lines}
+use Rattle.plan_report.specs.Text.{HasRoom, Pushes}
+use Rattle.plan_report.specs.declared.text.Text.{Text}
 use Rattle.plan_report.proofs.Digits.{ten_digits}
 use Rattle.plan_report.proofs.Names.{lawful_there}
-use Rattle.plan_report.proofs.Puts.{puts_then}
+use Rattle.plan_report.proofs.Pushes.{pushes_then}
 
 -- what stands behind the name
 abbrev pub line_end : Domain → List ℕ
@@ -41,13 +43,13 @@ module _ (file ds : List ℕ) where
       let f = λ (r : ℕ). register_line (name_at file r) (domains_of ds r) in
       ap joined (map-range_with_len_more f 0 i i (omega arith)) ∙ joined_push (map f (range_with_len 0 i)) (f i)
 
-  pub one_line : (i start n m : ℕ) (was mid out : List ℕ) → i < register_run file → start + 32 * (i + 1) ≤ length was → Puts start (register_lines file i ds) was mid n × (length (register_lines file i ds) ≤ 32 * i) → Puts n (register_line (name_at file i) (domains_of ds i)) mid out m → Puts start (register_lines file (i + 1) ds) was out m × (length (register_lines file (i + 1) ds) ≤ 32 * (i + 1))
-  one_line i start n m was mid out known room p q =
+  pub one_line : (i : ℕ) (was mid now : Text) → i < register_run file → HasRoom was (32 * (i + 1)) → Pushes (register_lines file i ds) was mid × (length (register_lines file i ds) ≤ 32 * i) → Pushes (register_line (name_at file i) (domains_of ds i)) mid now → Pushes (register_lines file (i + 1) ds) was now × (length (register_lines file (i + 1) ds) ≤ 32 * (i + 1))
+  one_line i was mid now known room p q =
       let line = register_line (name_at file i) (domains_of ds i) in
       let short = line_short (name_at file i) (domains_of ds i) (lawful_there file i known) in
       let l = length-append (register_lines file i ds) line in
       let b = p.1 in
-      rw (lines_more i) (puts_then start (register_lines file i ds) line was (omega arith) n m mid out p.0 q, omega arith)
+      rw (lines_more i) (pushes_then (register_lines file i ds) line was mid now (omega arith) p.0 q, omega arith)
 
 module _ (T s late : ℕ) (fits_T : T < 2 ^ 32) (fits_s : s < 2 ^ 32) (fits_late : late < 2 ^ 32) where
   -- the first line fits its memory

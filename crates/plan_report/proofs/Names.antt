@@ -1,17 +1,16 @@
 -- The registers that an opened file starts with: each record reads as a register of a lawful name.
-use Rattle.std.proofs.Common.{◌≡◌, ℕ, ◌<◌, Bool, true, false, cond, ◌&&◌, eqb, ltb, List, length, get_or, drop, Some, None, Option, sym, refl, ap, ◌∙◌, arith}
+use Rattle.std.proofs.Common.{◌≡◌, ℕ, ◌<◌, Bool, true, false, cond, ◌&&◌, eqb, ltb, List, length, get_or, drop, Some, None, sym, refl, ap, ◌∙◌, arith}
 use Rattle.std.specs.List.{range_with_len, prefix_len}
 use Rattle.std.proofs.lemmas.List.FromFn.{length-range_with_len, get_or-range_with_len}
 use Rattle.std.proofs.lemmas.List.Sums.{prefix_len-le-length}
 use Rattle.std.proofs.lemmas.Bool.{cond-true, lt-ltb, both_ways}
-use Rattle.timing.specs.declared.domain.Domain.{Domain}
 use Rattle.timing.specs.declared.pair.Pair.{Pair}
 use Rattle.delay_file.specs.Bytes.{be32, every, is_zero, not_zero}
-use Rattle.delay_file.specs.Files.{numbered, register_at, register_run, record_count, record_at}
-use Rattle.delay_file.specs.Records.{Reading, register, delay, refused, reading, starts, pair_fields, name_in, lawful_name}
+use Rattle.delay_file.specs.declared.view.FileView.{FileView}
+use Rattle.delay_file.specs.Files.{numbered, register_at, register_run, register_name, record_answer, record_count, record_at, view_registers}
+use Rattle.delay_file.specs.Records.{Reading, register, delay, refused, reading, starts, pair_fields, name_in, name_of, lawful_name}
 use Rattle.delay_file.proofs.Scans.{leading_below}
-use Rattle.plan_report.specs.Report.{name_at, register_line}
-use Rattle.plan_report.specs.Reports.{record_line}
+use Rattle.plan_report.specs.Report.{name_at}
 
 -- what a record reads as, by its tests
 module _ (k n : ℕ) (name : List ℕ) (p : Pair) where
@@ -55,12 +54,7 @@ module _ (file : List ℕ) (k : ℕ) (h : k < register_run file) where
       cond-true (ltb k (record_count file)) (reading k (record_at file k)) (refused 5 None) (lt-ltb k (record_count file) (omega arith))
       ∙ (numbered_so k (record_at file k) passes).1
 
-  -- such a record is read, and has the line of its register
-  pub line_there : (x : Reading) (d : Domain) → x ≡ cond (ltb k (record_count file)) (reading k (record_at file k)) (refused 5 None) → record_line x d ≡ register_line (name_at file k) d
-  line_there x d e = ap (λ y. record_line y d) (e ∙ reads_there)
-
-  pub never_refused : (number : ℕ) (at : Option ℕ) → refused number at ≡ cond (ltb k (record_count file)) (reading k (record_at file k)) (refused 5 None) → ⊥
-  never_refused number at e =
-      let f : refused number at ≡ register (be32 (record_at file k) 4) (name_at file k) = e ∙ reads_there in
-      let z : ◌≡◌ {A = ℕ} 0 1 = cc in
-      omega arith
+-- so such a register has a name
+pub name_there : (v : FileView) (k : ℕ) → k < view_registers v → k < register_run v.bytes.now → register_name v k ≡ Some (name_at v.bytes.now k)
+name_there v k there known =
+    cond-true (ltb k (view_registers v)) (name_of (record_answer v k)) None (lt-ltb k (view_registers v) there) ∙ ap name_of (reads_there v.bytes.now k known)

@@ -4,19 +4,16 @@ use Rattle.std.specs.List.{range_with_len}
 use Rattle.timing.specs.Outcomes.{period_within, offset_within}
 use Rattle.timing.specs.Plans.{domains_of}
 use Rattle.timing.specs.declared.domain.Domain.{Domain}
-use Rattle.timing.specs.declared.domain.Domain.TheVariants.{Early, Late}
+use Rattle.timing.specs.Domains.{domain_name}
 use Rattle.delay_file.specs.Files.{Opening, opened, closed, opening, record_at, joined}
 use Rattle.delay_file.specs.Records.{name_in}
 use Rattle.plan_file.specs.PlanRecords.{late_number}
+use Rattle.plan_file.specs.declared.draft.Draft.{Draft}
 
 -- the first line: period, offset and the number of late registers
 abbrev pub head_line : ℕ → ℕ → ℕ → List ℕ
 head_line T s late =
     codes "period " ++ (decimal T ++ (codes " offset " ++ (decimal s ++ (codes " late " ++ (decimal late ++ 10 ∷ [])))))
-
-abbrev pub domain_name : Domain → List ℕ
-domain_name Early = codes "early"
-domain_name Late = codes "late"
 
 -- the line of a register
 abbrev pub register_line : List ℕ → Domain → List ℕ
@@ -62,3 +59,7 @@ report_opened file T s ds room (closed number at) = refused number at
 -- The answer of report for every input: the file's opening, then 8, 7 and 9.
 abbrev pub report_answer : List ℕ → ℕ → ℕ → List ℕ → ℕ → Reported
 report_answer file T s ds room = report_opened file T s ds room (opening file)
+
+-- the same for a draft as the code holds it
+abbrev pub draft_report : List ℕ → Draft → ℕ → Reported
+draft_report file d room = report_answer file d.period d.offset d.domains.now room

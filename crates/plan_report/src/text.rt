@@ -1,35 +1,58 @@
 // Text put into lent memory, each piece behind the one before.
-ghost use Rattle.std.specs.Prelude.{◌+◌, ◌≤◌, ◌++◌, length, decimal};
-ghost use Rattle.plan_report.specs.Reports.{Puts};
+ghost use Rattle.std.specs.Prelude.{◌≡◌, ◌++◌, length, decimal};
+ghost use Rattle.plan_report.specs.Text.{HasRoom, Pushes};
 
-// Puts bytes into memory from a place on, and answers where they end.
-pub(crate) fn put_bytes(out: &mut [u8], at: usize, bytes: &[u8]) -> usize
-    requires { at + length bytes.now ≤ length out.old }
-    ensures { Puts at bytes.now out.old out.new result }
-{
-    let end = at + bytes.len();
-    out[at..end].copy_from_slice(bytes);
-    end
+// The memory, and where the text in it ends so far.
+#[derive(Drop)]
+pub(crate) struct Text<'m> {
+    memory: &'m mut [u8],
+    end: usize,
 }
 
-// Puts a number in decimal digits.
-pub(crate) fn put_number(out: &mut [u8], at: usize, number: u32) -> usize
-    requires { at + length (decimal number) ≤ length out.old }
-    ensures { Puts at (decimal number) out.old out.new result }
-{
-    let last = if number >= 10 {
-        put_number(out, at, number / 10)
-    } else {
-        at
-    };
-    put_bytes(out, last, &[b'0' + (number % 10) as u8])
-}
+impl<'m> Text<'m> {
+    // A text that begins where its memory does.
+    pub(crate) fn new(memory: &'m mut [u8]) -> Text<'m>
+        ensures memory { result.memory.now ≡ memory.old }
+        ensures same_memory { result.memory.ghost_name ≡ memory.entry.ghost_name }
+        ensures end { result.end ≡ 0 }
+    {
+        Text { memory, end: 0 }
+    }
 
-// Puts a word and a number behind it.
-pub(crate) fn put_field(out: &mut [u8], at: usize, word: &[u8], number: u32) -> usize
-    requires { at + length (word.now ++ decimal number) ≤ length out.old }
-    ensures { Puts at (word.now ++ decimal number) out.old out.new result }
-{
-    let behind = put_bytes(out, at, word);
-    put_number(out, behind, number)
+    // How long the text is.
+    pub(crate) fn len(&self) -> usize
+        ensures { result ≡ self.now.end }
+    {
+        self.end
+    }
+
+    // Puts bytes behind the text.
+    pub(crate) fn push(&mut self, bytes: &[u8])
+        requires { HasRoom self.old (length bytes.now) }
+        ensures { Pushes bytes.now self.old self.new }
+    {
+        let end = self.end + bytes.len();
+        self.memory[self.end..end].copy_from_slice(bytes);
+        self.end = end;
+    }
+
+    // Puts a number in decimal digits.
+    pub(crate) fn push_number(&mut self, number: u32)
+        requires { HasRoom self.old (length (decimal number)) }
+        ensures { Pushes (decimal number) self.old self.new }
+    {
+        if number >= 10 {
+            self.push_number(number / 10);
+        }
+        self.push(&[b'0' + (number % 10) as u8]);
+    }
+
+    // Puts a word and a number behind it.
+    pub(crate) fn push_field(&mut self, word: &[u8], number: u32)
+        requires { HasRoom self.old (length (word.now ++ decimal number)) }
+        ensures { Pushes (word.now ++ decimal number) self.old self.new }
+    {
+        self.push(word);
+        self.push_number(number);
+    }
 }

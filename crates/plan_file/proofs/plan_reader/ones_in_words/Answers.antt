@@ -8,12 +8,12 @@ use Rattle.plan_file.proofs.plan_reader.ones_in_words.Goals as goal
 pub loop-word-init : goal.loop-word-init
 loop-word-init c = (omega arith, ones_none c.args.bytes.now, omega arith)
 
-pub returns-in-None : goal.returns-in-None
-returns-in-None c =
+pub returns-in_default : goal.returns-in_default
+returns-in_default c =
     let n = c.args.registers in
     let bytes = c.args.bytes.now in
     let j = c.loop-word.word in
-    let b = not_read _ _ c.in-None.ensures in
+    let b = not_read _ _ c.in_default.ensures in
     let e = good_until bytes n j (omega (arith, c.word_count-words.ensures)) c.loop-word.invariant.0 (ap (word_good n (64 * j)) (sym c.record_bytes.ensures.bytes) ∙ b) in
     (words_short bytes n (omega (arith, c.word_count-words.ensures)), ap (λ f. refused (refusal_number f.refusal) f.«record») c.at.ensures ∙ ap (λ k. refused 13 (Some (1 + k))) (sym e))
 

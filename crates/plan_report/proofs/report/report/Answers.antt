@@ -1,20 +1,31 @@
-use Rattle.std.proofs.Common.{arith}
+use Rattle.std.proofs.Common.{◌≡◌, length, ap, ◌∙◌, arith, rules}
+use Rattle.timing.specs.Outcomes.{Outcome, granted, unless, offset_within, period_within}
+use Rattle.timing.proofs.Rows.{passed}
+use Rattle.plan_file.specs.PlanRecords.{late_number}
 use Rattle.plan_report.proofs.Lines.{head_short}
-use Rattle.plan_report.proofs.Whole.{all_known, whole}
+use Rattle.plan_report.proofs.Whole.{whole}
 use Rattle.plan_report.proofs.report.report.Goals as goal
 
-pub put_registers-requires : goal.put_registers-requires
-put_registers-requires c =
-    let o = c.in_ok-view.ensures in
-    let h = head_short c.args.draft.now.period c.args.draft.now.offset c.late_count.result (omega arith) (omega arith) (omega arith) in
-    record {
-      known = all_known c.args.file.now c.in_ok-view.view o.same _ c.registers-registers.ensures o.count;
-      room = omega arith;
-    }
+pub push_registers-requires-clause-room : goal.push_registers-requires-clause-room
+push_registers-requires-clause-room c =
+    let d = c.args.draft.now in
+    let h = head_short d.period d.offset c.late_count.result (omega arith) (omega arith) (omega arith) in
+    let p = c.push_head.ensures in
+    let m = ap length c.new-text.ensures.memory in
+    omega (arith, p.ends, p.same_length, c.new-text.ensures.end, c.if-out-count.false, c.registers-registers.ensures)
 
 pub returns : goal.returns
 returns c =
+    let d = c.args.draft.now in
+    let h = head_short d.period d.offset c.late_count.result (omega arith) (omega arith) (omega arith) in
     let o = c.in_ok-view.ensures in
-    let h = head_short c.args.draft.now.period c.args.draft.now.offset c.late_count.result (omega arith) (omega arith) (omega arith) in
-    let w = whole c.args.file.now c.in_ok-view.view o.same _ c.registers-registers.ensures c.args.draft.now.domains.now _ _ _ c.args.draft.now.period c.args.draft.now.offset _ _ _ o.answer c.late_count.ensures (omega arith) (omega arith) (omega arith) (omega arith) (omega arith) h c.put_head-behind.ensures c.put_registers.ensures in
+    let period : ◌≡◌ {A = Outcome (Unit {0})} (granted tt) (unless (period_within d.period) 8 (granted tt)) = search rules in
+    let offset : ◌≡◌ {A = Outcome (Unit {0})} (granted tt) (unless (offset_within d.offset) 7 (granted tt)) = search rules in
+    let late = c.late_count.ensures ∙ ap (λ n. late_number n d.domains.now) c.registers-registers.ensures in
+    let long = c.if-draft-count.false in
+    let room = c.if-out-count.false in
+    let n = c.registers-registers.ensures in
+    let w =
+    whole c.args.file.now c.in_ok-view.view d.domains.now c.args.out.now d.period d.offset c.late_count.result c.new-text.result c.push_head.new.text c.push_registers.new.text _ c.len.result (search rules) c.len.ensures o.same o.answer late
+    (passed (period_within d.period) 8 tt _ period).0 (passed (offset_within d.offset) 7 tt _ offset).0 (omega (arith, long, n)) (omega (arith, room, n)) h c.new-text.ensures.end c.new-text.ensures.memory c.push_head.ensures c.push_registers.ensures in
     record { answer = w.0; rest = w.1 }
