@@ -18,80 +18,54 @@ pub struct Circuit<'t> {
     pub mistakes: BTreeMap<usize, Problem<'t>>,
 }
 
-// What is known while a text is read: the number of each name, and the pairs, which wait until every name is known.
-#[derive(Drop)]
-struct Lines<'t> {
-    numbers: BTreeMap<&'t str, u32>,
-    pairs: Vec<(usize, PairLine<'t>)>,
-}
-
-impl<'t> Lines<'t> {
-    fn note(
-        &mut self,
-        circuit: &mut Circuit<'t>,
-        at: usize,
-        line: &'t str,
-    ) -> Result<(), AllocError> {
-        match read_line(line) {
-            Ok(Line::Blank) => {}
-            Ok(Line::Pair(pair)) => self.pairs.push((at, pair))?,
-            Ok(Line::Register(name)) => self.note_register(circuit, at, name)?,
-            Err(problem) => circuit.note_mistake(at, problem)?,
-        }
-        Ok(())
-    }
-
-    fn note_register(
-        &mut self,
-        circuit: &mut Circuit<'t>,
-        at: usize,
-        name: &'t str,
-    ) -> Result<(), AllocError> {
-        match next_number(&self.numbers, name) {
-            Ok(number) => {
-                self.numbers.insert(name, number)?;
-                circuit.names.push(name.as_bytes())?;
-            }
-            Err(problem) => circuit.note_mistake(at, problem)?,
-        }
-        Ok(())
-    }
-}
-
-// Reads a whole text. Registers are numbered in the order of their lines; a pair may stand before its registers.
+// Reads a whole text. Registers are numbered in the order of their lines; a pair may stand before its registers, so the
+// pairs wait until every name is known.
 pub fn read_circuit<'t>(heap: Global, text: &'t str) -> Result<Circuit<'t>, AllocError> {
     let mut circuit = Circuit {
         names: Vec::new(heap),
         pairs: Vec::new(heap),
         mistakes: BTreeMap::new(heap),
     };
-    let mut lines = Lines {
-        numbers: BTreeMap::new(heap),
-        pairs: Vec::new(heap),
-    };
-    for (index, line) in text.lines().enumerate() {
-        lines.note(&mut circuit, index.saturating_add(1), line)?;
+    let mut numbers = BTreeMap::new(heap);
+    let mut waiting = Vec::new(heap);
+    for (at, line) in (1..).zip(text.lines()) {
+        let words: Vec<&str> = line.split_whitespace().collect(heap)?;
+        match circuit.value_or_note(at, read_line(&words))?.flatten() {
+            None => {}
+            Some(Line::Pair(pair)) => waiting.push((at, pair))?,
+            Some(Line::Register(name)) => {
+                if let Some(number) = circuit.value_or_note(at, next_number(&numbers, name))? {
+                    numbers.insert(name, number)?;
+                    circuit.names.push(name.as_bytes())?;
+                }
+            }
+        }
     }
-    for (at, line) in lines.pairs.iter() {
-        circuit.note_pair(*at, resolved(&lines.numbers, *line))?;
+    for (at, pair) in &waiting {
+        if let Some(pair) = circuit.value_or_note(*at, resolved(&numbers, *pair))? {
+            circuit.pairs.push(pair)?;
+        }
     }
     Ok(circuit)
 }
 
 impl<'t> Circuit<'t> {
-    fn note_pair(&mut self, at: usize, pair: Result<Pair, Problem<'t>>) -> Result<(), AllocError> {
-        match pair {
-            Ok(pair) => self.pairs.push(pair)?,
-            Err(problem) => self.note_mistake(at, problem)?,
+    // What was read of a line, where nothing is wrong with it; what is wrong is noted.
+    fn value_or_note<T: Drop>(
+        &mut self,
+        at: usize,
+        read: Result<T, Problem<'t>>,
+    ) -> Result<Option<T>, AllocError> {
+        match read {
+            Ok(value) => Ok(Some(value)),
+            Err(problem) => {
+                self.mistakes.insert(at, problem)?;
+                Ok(None)
+            }
         }
-        Ok(())
-    }
-
-    fn note_mistake(&mut self, at: usize, problem: Problem<'t>) -> Result<(), AllocError> {
-        self.mistakes.insert(at, problem)?;
-        Ok(())
     }
 }
+
 // The number of a new register, if it may have its name.
 fn next_number<'t>(numbers: &BTreeMap<&'t str, u32>, name: &'t str) -> Result<u32, Problem<'t>>
     ensures { IfOk result (λ n. (n < 4096) × (lawful_name name.now ≡ true)) }
@@ -102,26 +76,25 @@ fn next_number<'t>(numbers: &BTreeMap<&'t str, u32>, name: &'t str) -> Result<u3
     if numbers.contains_key(name) {
         return Err(Problem::NameAgain(name));
     }
-    match u32::try_from(numbers.len()) {
-        Ok(number) if number < MAX_REGISTERS => Ok(number),
-        _ => Err(Problem::TooManyRegisters),
-    }
+    u32::try_from(numbers.len())
+        .ok()
+        .filter(|&number| number < MAX_REGISTERS)
+        .ok_or(Problem::TooManyRegisters)
 }
 
 // A pair by the numbers of its registers.
 fn resolved<'t>(numbers: &BTreeMap<&'t str, u32>, line: PairLine<'t>) -> Result<Pair, Problem<'t>>
     ensures { IfOk result (λ p. (p.min ≡ line.entry.min) × (p.max ≡ line.entry.max)) }
 {
-    let Some(launch) = numbers.get(line.launch) else {
-        return Err(Problem::NoSuchName(line.launch));
-    };
-    let Some(capture) = numbers.get(line.capture) else {
-        return Err(Problem::NoSuchName(line.capture));
-    };
     Ok(Pair {
-        launch: *launch,
-        capture: *capture,
+        launch: number_of(numbers, line.launch)?,
+        capture: number_of(numbers, line.capture)?,
         min: line.min,
         max: line.max,
     })
+}
+
+// The number of the register of a name.
+fn number_of<'t>(numbers: &BTreeMap<&'t str, u32>, name: &'t str) -> Result<u32, Problem<'t>> {
+    numbers.get(name).copied().ok_or(Problem::NoSuchName(name))
 }

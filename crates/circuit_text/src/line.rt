@@ -1,14 +1,11 @@
 ghost use Rattle.circuit_text.specs.Words.{DelayRead};
-ghost use Rattle.std.specs.Prelude.{◌≡◌};
 
 use crate::mistake::Problem;
-use std::str::SplitWhitespace;
 use timing::limits::MISSING_DELAY;
 
 // What a line of a circuit says.
 #[derive(Clone, Copy)]
 pub enum Line<'t> {
-    Blank,
     Register(&'t str),
     Pair(PairLine<'t>),
 }
@@ -30,48 +27,27 @@ pub fn read_delay(word: &str) -> Option<i32>
     if word == "-" {
         return Some(MISSING_DELAY);
     }
-    match word.parse::<i32>() {
-        Ok(delay) if delay != MISSING_DELAY => Some(delay),
-        _ => None,
+    word.parse().ok().filter(|&delay| delay != MISSING_DELAY)
+}
+
+// What a line says by its words. The first decides; a line without words, or that starts with `#`, says nothing.
+pub(crate) fn read_line<'t>(words: &[&'t str]) -> Result<Option<Line<'t>>, Problem<'t>> {
+    match *words {
+        [] => Ok(None),
+        [first, ..] if first.starts_with('#') => Ok(None),
+        ["register", name] => Ok(Some(Line::Register(name))),
+        ["register", ..] => Err(Problem::RegisterForm),
+        ["pair", launch, capture, min, max] => Ok(Some(Line::Pair(PairLine {
+            launch,
+            capture,
+            min: delay(min)?,
+            max: delay(max)?,
+        }))),
+        ["pair", ..] => Err(Problem::PairForm),
+        [first, ..] => Err(Problem::UnknownWord(first)),
     }
 }
 
-// What a line says. Its first word decides; a line without words, or that starts with `#`, says nothing.
-pub(crate) fn read_line<'t>(line: &'t str) -> Result<Line<'t>, Problem<'t>> {
-    let mut words = line.split_whitespace();
-    let Some(first) = words.next() else {
-        return Ok(Line::Blank);
-    };
-    if first.starts_with('#') {
-        return Ok(Line::Blank);
-    }
-    match first {
-        "register" => register_line(words),
-        "pair" => pair_line(words),
-        _ => Err(Problem::UnknownWord(first)),
-    }
-}
-
-fn register_line<'t>(mut words: SplitWhitespace<'t>) -> Result<Line<'t>, Problem<'t>> {
-    let (Some(name), None) = (words.next(), words.next()) else {
-        return Err(Problem::RegisterForm);
-    };
-    Ok(Line::Register(name))
-}
-
-fn pair_line<'t>(mut words: SplitWhitespace<'t>) -> Result<Line<'t>, Problem<'t>> {
-    let (Some(launch), Some(capture)) = (words.next(), words.next()) else {
-        return Err(Problem::PairForm);
-    };
-    let (Some(min), Some(max), None) = (words.next(), words.next(), words.next()) else {
-        return Err(Problem::PairForm);
-    };
-    let min = read_delay(min).ok_or(Problem::Delay(min))?;
-    let max = read_delay(max).ok_or(Problem::Delay(max))?;
-    Ok(Line::Pair(PairLine {
-        launch,
-        capture,
-        min,
-        max,
-    }))
+fn delay<'t>(word: &'t str) -> Result<i32, Problem<'t>> {
+    read_delay(word).ok_or(Problem::Delay(word))
 }

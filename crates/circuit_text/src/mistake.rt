@@ -1,7 +1,8 @@
+use std::error::Error;
 use std::fmt;
 
 // What is wrong with a line.
-#[derive(Clone, Copy)]
+#[derive(Clone, Copy, Debug)]
 pub enum Problem<'t> {
     UnknownWord(&'t str),
     RegisterForm,
@@ -30,3 +31,5 @@ impl fmt::Display for Problem<'_> {
         }
     }
 }
+
+impl Error for Problem<'_> {}

@@ -34,11 +34,9 @@ pub fn step(session: &mut Session, heap: Global, call: &Call) -> Answer
 fn saved(session: &Session, heap: Global) -> Result<Vec<u8>, AllocError>
     ensures { Saves (book session.now) result }
 {
-    let mut out = Vec::from_elem(heap, 0u8, session.pair_count().saturating_mul(RECORD_BYTES))?;
-    match session.save(out.as_mut_slice()) {
-        Ok(_) => Ok(out),
-        Err(_) => Err(AllocError),
-    }
+    let mut out = Vec::from_elem(heap, 0u8, session.pair_count() * RECORD_BYTES)?;
+    session.save(out.as_mut_slice()).unwrap();
+    Ok(out)
 }
 
 // Performs calls one after another, into memory that has room for their answers. It cannot fail.
@@ -74,6 +72,26 @@ pub enum Unserved {
     Memory,
 }
 
+impl From<Unopened> for Unserved {
+    ghost use Rattle.planner.specs.declared.runs.Unserved.TheVariants.{Unopened};
+
+    ghost from_gives = { λ unopened e. e ≡ Unopened unopened };
+
+    fn from(unopened: Unopened) -> Unserved {
+        Unserved::Unopened(unopened)
+    }
+}
+
+impl From<AllocError> for Unserved {
+    ghost use Rattle.planner.specs.declared.runs.Unserved.TheVariants.{Memory};
+
+    ghost from_gives = { λ _ e. e ≡ Memory };
+
+    fn from(_error: AllocError) -> Unserved {
+        Unserved::Memory
+    }
+}
+
 // Opens a session and performs calls in it: the same, from the book of a session that was just opened.
 pub fn run_from_opening(
     heap: Global,
@@ -84,14 +102,8 @@ pub fn run_from_opening(
 ) -> Result<Vec<Answer>, Unserved>
     ensures { IfOk result (λ answers. (end : Book) × Runs (fresh registers (vec_len pair_memory)) calls.now answers.items end) }
 {
-    let mut session = match Session::open(registers, pair_memory, pin_memory) {
-        Ok(session) => session,
-        Err(unopened) => return Err(Unserved::Unopened(unopened)),
-    };
-    match run(&mut session, heap, calls) {
-        Ok(answers) => Ok(answers),
-        Err(_) => Err(Unserved::Memory),
-    }
+    let mut session = Session::open(registers, pair_memory, pin_memory)?;
+    Ok(run(&mut session, heap, calls)?)
 }
 
 // The laws of runs: the calls alone decide the book; each answer is right for the book after the calls before it; two runs in

@@ -1,13 +1,21 @@
 -- The pairs that a session keeps, and what it shows as a source of delays.
-use Rattle.std.proofs.Common.{◌≡◌, ℕ, ◌<◌, ◌≤◌, length, get_or, vec_items, sym, ap, ◌∙◌, subst, arith}
-use Rattle.std.specs.List.{AllByRecursion}
+use Rattle.std.proofs.Common.{◌≡◌, ℕ, ◌<◌, ◌≤◌, Bool, true, ltb, List, length, get_or, is_some, IfSome, Some, None, Option, Result, vec_items, sym, ap, ◌∙◌, subst, inl, inr, arith}
+use Rattle.std.specs.List.{AllByRecursion, find, position, position_or_len}
+use Rattle.std.specs.Borrow.{Bor}
+use Rattle.std.specs.Option.{ok_or, option_copied}
 use Rattle.std.proofs.ByRecursion.{all_from_every, All-map, All-weaker}
+use Rattle.std.proofs.lemmas.Bool.{cases_lt, cond-false, cond-true, le-ltb, lt-ltb, ltb-false, ltb-true}
 use Rattle.std.proofs.lemmas.List.{get_or-map, get_or_past, get_or-take, length-map}
+use Rattle.std.proofs.lemmas.List.Folds.{find_at}
+use Rattle.std.proofs.lemmas.List.Quantifiers.{position-Some}
+use Rattle.std.proofs.lemmas.Option.{slice_get_cases}
 use Rattle.timing.specs.Delays.{Lawful}
-use Rattle.timing.specs.Meaning.{pair, faulty, LawfulEntry, LawfulMeaning, entry_at}
+use Rattle.timing.specs.Meaning.{Entry, pair, faulty, LawfulEntry, LawfulMeaning, answered, entry_at}
 use Rattle.timing.specs.declared.pair.Pair.{Pair}
-use Rattle.session.specs.Book.{kept}
-use Rattle.session.specs.Pairs.{KeepsLimits}
+use Rattle.timing.specs.declared.refusal.Refusal.{Refusal}
+use Rattle.timing.specs.declared.refusal.Refusal.TheVariants.{NoSuchEntry}
+use Rattle.session.specs.Book.{book, has, kept}
+use Rattle.session.specs.Pairs.{KeepsLimits, joins}
 use Rattle.session.specs.Saves.{session_meaning}
 use Rattle.session.specs.declared.Session.{Session}
 use Rattle.session.proofs.Look.{length_kept}
@@ -42,14 +50,53 @@ lawful_session s =
       each = All-map (LawfulEntry s.registers) pair (kept s) (All-weaker (KeepsLimits s.registers) (Lawful s.registers) (lawful s.registers) (kept s) (kept_lawful s));
     }
 
-pub entry_there : (s : Session) (place : ℕ) (p : Pair) → place < s.used → p ≡ get_or (vec_items s.pairs) place p → pair p ≡ entry_at (session_meaning s) place
-entry_there s place p h e =
-    let l = kept_count s in
-    ap pair (e ∙ sym (kept_at s place p h)) ∙ sym (get_or-map pair (kept s) place p (faulty 5) (omega arith))
+-- what a session shows at a place
+module _ (s : Session) (place : ℕ) where
+  abbrev pub Shows : Entry → Type 0
+  Shows e = (e ≡ entry_at (session_meaning s) place) × LawfulEntry s.registers e
 
-pub entry_past : (s : Session) (place : ℕ) → s.used ≤ place → faulty 5 ≡ entry_at (session_meaning s) place
-entry_past s place h =
-    let l = entry_count_is s in sym (get_or_past (session_meaning s).entries place (faulty 5) (omega arith))
+  shown : (r : Option (Bor Pair)) → is_some r ≡ ltb place (length (kept s)) → IfSome r (λ x. x.now ≡ get_or (kept s) place x.now) → Shows (answered (ok_or (option_copied r) NoSuchEntry))
+  shown None e f =
+      let l = entry_count_is s in
+      let n = kept_count s in
+      let h = ltb-false place (length (kept s)) (sym e) in
+      (sym (get_or_past (session_meaning s).entries place (faulty 5) (omega arith)), tt)
+  shown (Some x) e f =
+      let n = kept_count s in
+      let h = ltb-true place (length (kept s)) (sym e) in
+      let here : x.now ≡ get_or (vec_items s.pairs) place x.now = f ∙ kept_at s place x.now (omega arith) in
+      (ap pair f ∙ sym (get_or-map pair (kept s) place x.now (faulty 5) h), subst (Lawful s.registers) (sym here) (lawful s.registers _ (s.lawful place x.now (omega arith))))
 
-pub lawful_there : (s : Session) (place : ℕ) (p : Pair) → place < s.used → p ≡ get_or (vec_items s.pairs) place p → Lawful s.registers p
-lawful_there s place p h e = subst (Lawful s.registers) (sym e) (lawful s.registers _ (s.lawful place p h))
+  pub shown_by : (r : Option (Bor Pair)) (o : Option Pair) (a : Result Pair Refusal) → is_some r ≡ ltb place (length (kept s)) → IfSome r (λ x. x.now ≡ get_or (kept s) place x.now) → o ≡ option_copied r → a ≡ ok_or o NoSuchEntry → Shows (answered a)
+  shown_by r o a e f g h = rw (h, g) (shown r e f)
+
+-- a test has a first place in a list where it finds something
+is_some-position : (p : Pair → Bool) (xs : List Pair) → is_some (position p xs) ≡ is_some (find p xs)
+is_some-position p xs =
+    let k = position_or_len p xs in
+    let some = λ (o : Option ℕ). is_some o in
+    let found = λ (o : Option Pair). is_some o in
+    elim (slice_get_cases xs k).1 [
+      | inl q ↦ ap some (cond-true _ _ _ (lt-ltb k (length xs) q.1)) ∙ sym (ap found (find_at p xs ∙ q.2))
+      | inr q ↦ ap some (cond-false _ _ _ (le-ltb k (length xs) q.0)) ∙ sym (ap found (find_at p xs ∙ q.1))
+    ]
+
+-- The first place with a pair between two registers: there is one where the book has the pair, and it is among those used.
+module _ (s : Session) (a b : ℕ) where
+  abbrev Joins : Pair → Bool
+  Joins p = joins p a b
+
+  below_some : (i : ℕ) → position Joins (kept s) ≡ Some i → i < s.used
+  below_some i e =
+      let l = kept_count s in
+      let k = position_or_len Joins (kept s) in
+      elim (cases_lt k (length (kept s))) [
+        | inl h ↦ let f : Some k ≡ Some i = sym (cond-true _ _ _ (lt-ltb k (length (kept s)) h)) ∙ e in let g : k ≡ i = cc in omega arith
+        | inr h ↦ let f : ◌≡◌ {A = Option ℕ} None (Some i) = sym (cond-false _ _ _ (le-ltb k (length (kept s)) h)) ∙ e in absurd (cc)
+      ]
+
+  pub first_place : (r : Option ℕ) → r ≡ position Joins (kept s) → (is_some r ≡ has (book s) a b) × IfSome r (λ i. i < s.used) × IfSome r (λ i. (d : Pair) → joins (get_or (vec_items s.pairs) i d) a b ≡ true)
+  first_place None e = (ap is_some e ∙ is_some-position Joins (kept s), tt, tt)
+  first_place (Some i) e =
+      let h : i < s.used = below_some i (sym e) in
+      (ap is_some e ∙ is_some-position Joins (kept s), h, λ d. ap Joins (sym (kept_at s i d h)) ∙ (position-Some Joins (kept s) i d (sym e)).1)

@@ -23,15 +23,15 @@ use Rattle.session.specs.declared.Session.{Session}
 use Rattle.session.proofs.Books.{same_book}
 use Rattle.session.proofs.Look.{joins_keys, keys_join}
 use Rattle.session.proofs.Turns.{plus_count, plus_places, plus_registers}
-use Rattle.session.proofs.Kept.{kept_at, kept_count, kept_lawful, within_places}
+use Rattle.session.proofs.Kept.{kept_count, kept_lawful, within_places}
 
 -- one pair more
-pub pair_saved : (s : Session) (k : ℕ) (was out more : List ℕ) (p : Pair) → k < s.used → out ≡ joined (take k (map pair_bytes (kept s))) ++ drop (k * 32) was → p ≡ get_or (vec_items s.pairs) k p → more ≡ take (k * 32) out ++ (pair_bytes p ++ drop (k * 32 + 32) out) → more ≡ joined (take (k + 1) (map pair_bytes (kept s))) ++ drop ((k + 1) * 32) was
+pub pair_saved : (s : Session) (k : ℕ) (was out more : List ℕ) (p : Pair) → k < s.used → out ≡ joined (take k (map pair_bytes (kept s))) ++ drop (k * 32) was → p ≡ get_or (kept s) k p → more ≡ take (k * 32) out ++ (pair_bytes p ++ drop (k * 32 + 32) out) → more ≡ joined (take (k + 1) (map pair_bytes (kept s))) ++ drop ((k + 1) * 32) was
 pair_saved s k was out more p h e q m =
     let l = kept_count s in
     let n = length-map (kept s) pair_bytes in
     one_record (map pair_bytes (kept s)) (pairs_whole (kept s)) was k out more (pair_bytes p) (omega arith) e
-    (ap pair_bytes (q ∙ sym (kept_at s k p h)) ∙ sym (get_or-map pair_bytes (kept s) k p [] (omega arith))) m
+    (ap pair_bytes q ∙ sym (get_or-map pair_bytes (kept s) k p [] (omega arith))) m
 
 -- all pairs
 pub all_saved : (s : Session) (k : ℕ) (was out : List ℕ) → k ≡ s.used → out ≡ joined (take k (map pair_bytes (kept s))) ++ drop (k * 32) was → out ≡ saved_bytes (kept s) ++ drop (length (kept s) * 32) was

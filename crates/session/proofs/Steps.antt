@@ -1,15 +1,13 @@
 -- The steps of a load, entry by entry.
-use Rattle.std.proofs.Common.{◌≡◌, ℕ, ◌+◌, ◌-◌, ◌<◌, ◌≤◌, Bool, true, false, cond, ◌&&◌, eqb, ltb, List, ◌∷◌, length, get_or, take, drop, Some, None, Option, sym, refl, ap, ◌∙◌, subst, ap₂, inl, inr, arith}
+use Rattle.std.proofs.Common.{◌≡◌, ℕ, ◌+◌, ◌-◌, ◌<◌, ◌≤◌, Bool, true, false, cond, ◌&&◌, eqb, List, ◌∷◌, length, get_or, take, drop, Some, Option, Ok, Err, Result, sym, refl, ap, ◌∙◌, subst, ap₂, inl, inr, arith}
+use Rattle.std.specs.Result.{IsOk}
 use Rattle.std.proofs.lemmas.List.{at_drop_all, take_more}
-use Rattle.std.proofs.lemmas.Bool.{lt-ltb}
 use Rattle.timing.proofs.Judging.{judged_same}
 use Rattle.timing.proofs.Places.{step_entry}
 use Rattle.timing.specs.Meaning.{Entry, pair, faulty, entry_at, judged}
 use Rattle.timing.specs.Outcomes.{Outcome, granted, refused}
 use Rattle.timing.specs.Table.{refusal_number}
 use Rattle.timing.specs.declared.pair.Pair.{Pair}
-use Rattle.timing.specs.declared.refusal.Refusal.{Refusal}
-use Rattle.timing.specs.declared.refusal.Refusal.TheVariants.{NoSuchEntry}
 use Rattle.delay_file.proofs.Entries.{answered_entry, answer_there, entry_at_is, entry_count_is}
 use Rattle.delay_file.specs.Bytes.{every, is_zero}
 use Rattle.delay_file.specs.Files.{entry_answer, entry_of, located, record_at, record_count, view_meaning, view_registers}
@@ -19,7 +17,7 @@ use Rattle.delay_file.specs.declared.fault.Fault.{Fault}
 use Rattle.delay_file.specs.declared.view.FileView.{FileView}
 use Rattle.session.specs.Book.{Book, add_answer, added}
 use Rattle.session.specs.Loads.{Loading, taken, stopped, by_add, given_pairs, load_entries, plus}
-use Rattle.session.specs.Orders.{KnownOrder, OrderedWith, with_first}
+use Rattle.session.specs.Orders.{KnownOrder, OrderedWith, Takes, with_first}
 use Rattle.session.specs.Pairs.{Before}
 use Rattle.session.specs.declared.order.Order.{Order}
 use Rattle.session.specs.declared.order.Order.TheVariants.{Nothing, RisesTo, Mixed}
@@ -66,13 +64,8 @@ module _ (v : FileView) (i : ℕ) (within : i < length (given_pairs v)) where
       ap (λ x. load_entries b (view_registers v + i) (x ∷ rest)) f ∙ ap (stopped number) (sym r)
 
   -- a pair that add would refuse at its turn
-  pub pair_stops : (p : Pair) (b : Book) (rest : List Entry) (number : ℕ) (values : List ℕ) → entry_at (view_meaning v) i ≡ pair p → refused number values ≡ add_answer b p → load_entries b (view_registers v + i) (entry_at (view_meaning v) i ∷ rest) ≡ stopped number (Some (view_registers v + i))
-  pair_stops p b rest number values e a =
-      ap (λ x. load_entries b (view_registers v + i) (x ∷ rest)) e ∙ ap (λ o. by_add (view_registers v + i) o (load_entries (added b p) (view_registers v + i + 1) rest)) (sym a)
-
-  pub fault_told : (g : Refusal) (f : Fault) → f ≡ cond (ltb i (record_count v.bytes.now - view_registers v)) (record { refusal = g; «record» = Some (view_registers v + i) }) (record { refusal = NoSuchEntry; «record» = None }) → stopped (refusal_number f.refusal) f.«record» ≡ stopped (refusal_number g) (Some (view_registers v + i))
-  fault_told g f e =
-      ap (λ (h : Fault). stopped (refusal_number h.refusal) h.«record») (e ∙ rw (lt-ltb i (record_count v.bytes.now - view_registers v) within_entries) refl)
+  pub pair_stops : (p : Pair) (b : Book) (rest : List Entry) (f : Fault) → entry_at (view_meaning v) i ≡ pair p → Takes (view_registers v + i) (add_answer b p) (Err f) → load_entries b (view_registers v + i) (entry_at (view_meaning v) i ∷ rest) ≡ stopped (refusal_number f.refusal) f.«record»
+  pair_stops p b rest f e a = ap (λ x. load_entries b (view_registers v + i) (x ∷ rest)) e ∙ a (load_entries (added b p) (view_registers v + i + 1) rest)
 
   -- the first i pairs and this one
   pub first_more : (b : Book) (p : Pair) → ((d : Pair) → p ≡ get_or (given_pairs v) i d) → added (with_first b v i) p ≡ with_first b v (i + 1)
@@ -92,6 +85,10 @@ module _ (v : FileView) (i : ℕ) (within : i < length (given_pairs v)) where
 
   pub load_stop : (b : Book) (l : Loading) → ((rest : List Entry) → load_entries b (view_registers v + i) (entry_at (view_meaning v) i ∷ rest) ≡ l) → load_entries b (view_registers v + i) (drop i (view_meaning v).entries) ≡ l
   load_stop b l f = step_entry (load_entries b (view_registers v + i)) (view_meaning v) i (entry_at (view_meaning v) i) entries_there refl ∙ f (drop (i + 1) (view_meaning v).entries)
+
+-- a place below the entry count
+pub given_there : (v : FileView) (i n : ℕ) → i < n → n ≡ length (view_meaning v).entries → i < length (given_pairs v)
+given_there v i n h e = omega (arith, given_length v, entry_count_is v)
 
 -- all entries
 pub load_end : (v : FileView) (i k : ℕ) (b : Book) → length (view_meaning v).entries ≤ i → load_entries b k (drop i (view_meaning v).entries) ≡ taken b
@@ -129,3 +126,7 @@ module _ (v : FileView) (i : ℕ) (within : i < length (given_pairs v)) (b c : B
       let s : stopped number at ≡ taken c = sym (load_stop v i within b (stopped number at) (λ rest. entry_refused v i within number at b rest e)) ∙ goes in
       let z : ◌≡◌ {A = ℕ} 0 1 = cc in
       omega arith
+
+  pub reads_pair : (r : Result Pair Fault) → records.seen_pair r ≡ entry_answer v i → IsOk r
+  reads_pair (Ok p) e = refl
+  reads_pair (Err f) e = absurd (never_faulty _ _ e)

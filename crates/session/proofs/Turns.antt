@@ -1,17 +1,20 @@
 -- The turns of a load: the pairs of a file before a place, and what add would answer to the next.
-use Rattle.std.proofs.Common.{◌≡◌, ℕ, ◌+◌, ◌-◌, ◌<◌, ◌≤◌, min, Bool, true, false, cond, ◌||◌, leb, ◌⊎◌, List, [], ◌∷◌, ◌++◌, length, get_or, take, is_some, MatchBool, Option, sym, refl, ap, ◌∙◌, ap₂, inl, inr, arith}
+use Rattle.std.proofs.Common.{◌≡◌, ℕ, ◌+◌, ◌-◌, ◌<◌, ◌≤◌, min, Bool, true, false, cond, ◌||◌, leb, ◌⊎◌, List, [], ◌∷◌, ◌++◌, length, get_or, take, is_some, MatchBool, Some, Option, Err, sym, refl, ap, ◌∙◌, ap₂, inl, inr, arith}
 use Rattle.std.proofs.lemmas.List.FromFn.{length-map-range_with_len, get_or-map-range_with_len}
 use Rattle.std.proofs.lemmas.List.{length-take-le}
 use Rattle.std.proofs.lemmas.Bool.{both_ways, cases_Bool, cases_lt, le-leb, lt-leb}
 use Rattle.timing.specs.Meaning.{pair, judged}
-use Rattle.timing.specs.Outcomes.{granted, refused}
+use Rattle.timing.specs.Outcomes.{Outcome, granted, refused}
+use Rattle.timing.specs.Table.{refusal_number}
 use Rattle.timing.specs.declared.pair.Pair.{Pair}
+use Rattle.timing.specs.declared.refusal.Refusal.{Refusal}
 use Rattle.delay_file.specs.Files.{JoinsAt, record_at, record_count, view_registers}
 use Rattle.delay_file.specs.Records.{pair_fields}
+use Rattle.delay_file.specs.declared.fault.Fault.{Fault}
 use Rattle.delay_file.specs.declared.view.FileView.{FileView}
 use Rattle.session.specs.Book.{Book, add_answer, added, has, full}
-use Rattle.session.specs.Loads.{given_pairs, plus}
-use Rattle.session.specs.Orders.{KnownOrder}
+use Rattle.session.specs.Loads.{by_add, given_pairs, plus, stopped}
+use Rattle.session.specs.Orders.{KnownOrder, Takes}
 use Rattle.session.specs.Pairs.{find, joins}
 use Rattle.session.specs.declared.order.Order.TheVariants.{RisesTo}
 use Rattle.session.proofs.Look.{Missing, joins_keys, keys_join, look, missing_none, rises_none}
@@ -121,3 +124,7 @@ module _ (b : Book) (ps : List Pair) (i : ℕ) (p : Pair) (within : i ≤ length
 
   pub turn_taken : is_some (find (take i ps) p.launch p.capture) ≡ false → has b p.launch p.capture ≡ false → b.count + i < 16384 → b.count + i < b.places → granted tt ≡ add_answer so_far p
   turn_taken e f h k = sym (turn false false false e f (rw (lt-leb 16384 (b.count + i) h, lt-leb b.places (b.count + i) k)))
+
+-- a refusal of add stops the load with the fault that carries it
+pub stops_with : (k : ℕ) (g : Refusal) (f : Fault) → f ≡ record { refusal = g; «record» = Some k } → {answer : Outcome (Unit {0})} {values : List ℕ} → refused (refusal_number g) values ≡ answer → Takes k answer (Err f)
+stops_with k g f e h rest = ap (λ o. by_add k o rest) (sym h) ∙ ap (λ (x : Fault). stopped (refusal_number x.refusal) x.«record») (sym e)

@@ -1,14 +1,14 @@
 -- What a load finds on its way through a file: the order of the pairs so far, and what each entry comes to.
 use Rattle.std.specs.Prelude.{◌≡◌, ℕ, ◌+◌, ◌-◌, ◌<◌, ◌⊎◌, List, ◌∷◌, take, Ok, Err, Result, slice_index_or}
 use Rattle.timing.specs.Meaning.{Entry, pair, entry_at}
-use Rattle.timing.specs.Outcomes.{granted}
+use Rattle.timing.specs.Outcomes.{Outcome, granted}
 use Rattle.timing.specs.Table.{refusal_number}
 use Rattle.timing.specs.declared.pair.Pair.{Pair}
 use Rattle.delay_file.specs.Files.{view_meaning, view_registers}
 use Rattle.delay_file.specs.declared.fault.Fault.{Fault}
 use Rattle.delay_file.specs.declared.view.FileView.{FileView}
 use Rattle.session.specs.Book.{Book, add_answer}
-use Rattle.session.specs.Loads.{given_pairs, load_entries, plus, taken, stopped}
+use Rattle.session.specs.Loads.{Loading, by_add, given_pairs, load_entries, plus, taken, stopped}
 use Rattle.session.specs.Pairs.{Before, Rises}
 use Rattle.session.specs.declared.order.Order.{Order}
 use Rattle.session.specs.declared.order.Order.TheVariants.{Nothing, RisesTo, Mixed}
@@ -28,6 +28,11 @@ OrderedWith Mixed p r = r ≡ Mixed
 -- the book with the first i pairs of a file put in
 abbrev pub with_first : Book → FileView → ℕ → Book
 with_first b v i = plus b (take i (given_pairs v))
+
+-- What is found of the pair in record k, where add would answer so: add takes it; or loading stops here.
+abbrev pub Takes : ℕ → Outcome (Unit {0}) → Result (Unit {0}) Fault → Type 0
+Takes k answer (Ok t) = granted tt ≡ answer
+Takes k answer (Err f) = (rest : Loading) → by_add k answer rest ≡ stopped (refusal_number f.refusal) f.«record»
 
 -- What the code finds of the entry at a place, the ones before it put in: add would take its pair; or loading stops here.
 abbrev pub Admitted : Book → FileView → ℕ → Result Order Fault → Type 0

@@ -1,5 +1,6 @@
 -- Lists of pairs, looked up by their launch and capture registers.
-use Rattle.std.specs.Prelude.{◌≡◌, ℕ, ◌+◌, ◌<◌, Bool, cond, ◌&&◌, ◌⊎◌, List, [], ◌∷◌, get_or, ◌≤ℤ◌, Some, None, Option, ◌==◌, slice_index_or}
+use Rattle.std.specs.Prelude.{◌≡◌, ℕ, ◌+◌, ◌<◌, Bool, ◌&&◌, ◌⊎◌, List, get_or, ◌≤ℤ◌, Option, ◌==◌, slice_index_or}
+use Rattle.std.specs.List.{find as first_that}
 use Rattle.timing.specs.Bounds.{least_delay, greatest_delay}
 use Rattle.timing.specs.declared.pair.Pair.{Pair}
 
@@ -9,8 +10,7 @@ joins p a b = p.launch == a && p.capture == b
 
 -- the first pair of a list that goes from a to b
 abbrev pub find : List Pair → ℕ → ℕ → Option Pair
-find [] a b = None
-find (p ∷ ps) a b = cond (joins p a b) (Some p) (find ps a b)
+find ps a b = first_that (λ p. joins p a b) ps
 
 -- two of the first n pairs with the same two registers
 pub record Twins (n : ℕ) (xs : List Pair) : Type 0 where

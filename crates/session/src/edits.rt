@@ -1,5 +1,5 @@
-ghost use Rattle.std.specs.Prelude.{◌≡◌, ℕ, ◌<◌, true, None, MatchOption, slice_index_or};
-ghost use Rattle.session.specs.Book.{Stays, add_answer, added, after, book, ceiled, ceiling_answer, drop_answer, dropped, has, pin_answer, pin_byte, pinned, retime_answer, retimed};
+ghost use Rattle.std.specs.Prelude.{◌≡◌, ◌<◌, true, is_some, IfSome, position, slice_index_or};
+ghost use Rattle.session.specs.Book.{Stays, add_answer, added, after, book, ceiled, ceiling_answer, drop_answer, dropped, has, kept, pin_answer, pin_byte, pinned, retime_answer, retimed};
 ghost use Rattle.session.specs.Pairs.{joins};
 ghost use Rattle.timing.specs.Outcomes.{granted, told};
 ghost use Rattle.timing.specs.declared.pair.Pair.{Pair};
@@ -19,7 +19,7 @@ impl Session {
         ensures stays { Stays self.old self.new result }
     {
         pair.validate(self.registers)?;
-        if let Some(_) = self.place(pair.launch, pair.capture) {
+        if self.place(pair.launch, pair.capture).is_some() {
             return Err(Refusal::PairPresent);
         }
         if self.used >= MAX_ENTRIES || self.used >= self.pairs.len() {
@@ -36,13 +36,11 @@ impl Session {
         ensures stays { Stays self.old self.new result }
     {
         pair.validate(self.registers)?;
-        match self.place(pair.launch, pair.capture) {
-            Some(place) => {
-                self.pairs[place] = pair;
-                Ok(())
-            }
-            None => Err(Refusal::NoSuchEntry),
-        }
+        let place = self
+            .place(pair.launch, pair.capture)
+            .ok_or(Refusal::NoSuchEntry)?;
+        self.pairs[place] = pair;
+        Ok(())
     }
 
     // Takes the pair between two registers out; its place serves later adds. Refused with 2 and 5.
@@ -54,15 +52,11 @@ impl Session {
         if launch >= self.registers || capture >= self.registers {
             return Err(Refusal::NoSuchRegister);
         }
-        match self.place(launch, capture) {
-            Some(place) => {
-                let last = self.pairs[self.used - 1];
-                self.pairs[place] = last;
-                self.used -= 1;
-                Ok(())
-            }
-            None => Err(Refusal::NoSuchEntry),
-        }
+        let place = self.place(launch, capture).ok_or(Refusal::NoSuchEntry)?;
+        let last = self.pairs[self.used - 1];
+        self.pairs[place] = last;
+        self.used -= 1;
+        Ok(())
     }
 
     // Pins a register to a domain, in place of an older pin. Refused with 2.
@@ -124,14 +118,26 @@ impl Session {
 
     // Where the pair between two registers is kept.
     pub(crate) fn place(&self, launch: u32, capture: u32) -> Option<usize>
-        ensures { MatchOption result ((book self.now).at launch capture ≡ None) (λ i. (i < self.now.used) × ((d : Pair) → joins (slice_index_or self.now.pairs.items i d) launch capture ≡ true)) }
+        ensures found { is_some result ≡ has (book self.now) launch capture }
+        ensures there { IfSome result (λ i. i < self.now.used) }
+        ensures joins { IfSome result (λ i. (d : Pair) → joins (slice_index_or self.now.pairs.items i d) launch capture ≡ true) }
     {
-        for i in 0..self.used {
-            let pair = self.pairs[i];
-            if pair.launch == launch && pair.capture == capture {
-                return Some(i);
-            }
-        }
-        None
+        place_in(self.kept(), launch, capture)
     }
+
+    // The pairs, by the places in which they are kept.
+    pub(crate) fn kept(&self) -> &[Pair]
+        ensures { result.now ≡ kept self.now }
+    {
+        &self.pairs[..self.used]
+    }
+}
+
+// The first place in a list of a pair between two registers.
+fn place_in(pairs: &[Pair], launch: u32, capture: u32) -> Option<usize>
+    ensures { result ≡ position (λ p. joins p launch capture) pairs.now }
+{
+    pairs
+        .iter()
+        .position(|pair| pair.launch == launch && pair.capture == capture)
 }

@@ -22,8 +22,7 @@ impl Session {
     pub fn pins(&self) -> &[u8]
         ensures { result.now ≡ (book self.now).pins }
     {
-        let pins = self.pins.as_slice();
-        &pins[0..self.registers as usize]
+        &self.pins[..self.registers as usize]
     }
 
     pub fn ceiling(&self) -> u32

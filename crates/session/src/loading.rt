@@ -1,12 +1,11 @@
-ghost use Rattle.std.specs.Prelude.{◌≡◌, ℕ, ◌+◌, ◌<◌, length, take, is_some, slice_index_or};
+ghost use Rattle.std.specs.Prelude.{◌≡◌, ℕ, ◌+◌, ◌<◌, length, take, is_some, Some, slice_index_or};
 ghost use Rattle.session.specs.Pairs.{find};
 ghost use Rattle.delay_file.specs.Files.{view_meaning, view_registers};
 ghost use Rattle.session.specs.Book.{Book, Stays, add_answer, book};
 ghost use Rattle.session.specs.Loads.{given_pairs, load_entries, loaded_as, loading, taken};
-ghost use Rattle.session.specs.Orders.{Admitted, AllAdmitted, KnownOrder, with_first};
+ghost use Rattle.session.specs.Orders.{Admitted, AllAdmitted, KnownOrder, Takes, with_first};
 ghost use Rattle.timing.specs.Meaning.{judged};
 ghost use Rattle.timing.specs.Meaning.{pair as entry_pair};
-ghost use Rattle.timing.specs.Outcomes.{told};
 ghost use Rattle.timing.specs.declared.pair.Pair.{Pair};
 
 use crate::Session;
@@ -55,11 +54,14 @@ impl Session {
         ensures { Admitted (book self.now) view.now place result }
     {
         let pair = view.pair(place)?;
-        let order = order.with(pair);
-        match self.would_add(view, place, pair, order) {
-            Ok(()) => Ok(order),
-            Err(refusal) => Err(view.fault_at(place, refusal)),
-        }
+        let turn = Turn {
+            view: *view,
+            place,
+            pair,
+            order: order.with(pair),
+        };
+        self.would_add(&turn)?;
+        Ok(turn.order)
     }
 
     // Puts in every pair of a file that was admitted.
@@ -69,49 +71,62 @@ impl Session {
         ensures pins { self.new.pins ≡ self.old.pins }
     {
         for place in 0..view.entry_count() {
-            if let Ok(pair) = view.pair(place) {
-                self.put(pair);
-            }
+            self.put(view.pair(place).unwrap());
         }
     }
 
-    // What add would answer to a lawful pair of a file, were the entries before its place put in.
-    fn would_add(
-        &self,
-        view: &FileView<'_>,
-        place: usize,
-        pair: Pair,
-        order: Order,
-    ) -> Result<(), Refusal>
-        requires within { place < length (given_pairs view.now) }
-        requires given { (d : Pair) → pair ≡ slice_index_or (given_pairs view.now) place d }
-        requires lawful { judged self.now.registers pair ≡ entry_pair pair }
-        requires order { KnownOrder (given_pairs view.now) (place + 1) order }
-        ensures { told result ≡ add_answer (with_first (book self.now) view.now place) pair }
+    // Whether add would take the pair of a turn, were the entries before its place put in; else the fault.
+    fn would_add(&self, turn: &Turn<'_>) -> Result<(), Fault>
+        requires same { view_registers turn.now.view ≡ self.now.registers }
+        requires order { KnownOrder (given_pairs turn.now.view) (turn.now.place + 1) turn.now.order }
+        ensures { Takes (view_registers turn.now.view + turn.now.place) (add_answer (with_first (book self.now) turn.now.view turn.now.place) turn.now.pair) result }
     {
-        if let Some(_) = self.place(pair.launch, pair.capture) {
-            return Err(Refusal::PairPresent);
-        }
-        if repeats(view, place, pair, order) {
-            return Err(Refusal::PairPresent);
+        if self.place(turn.pair.launch, turn.pair.capture).is_some() || turn.repeats() {
+            return Err(turn.fault(Refusal::PairPresent));
         }
         let spare = self.pairs.len().min(MAX_ENTRIES) - self.used;
-        if spare <= place {
-            return Err(Refusal::TooManyEntries);
+        if spare <= turn.place {
+            return Err(turn.fault(Refusal::TooManyEntries));
         }
         Ok(())
     }
 }
 
-// Whether an entry before a place is between the same registers. Where the pairs rise none is.
-fn repeats(view: &FileView<'_>, place: usize, pair: Pair, order: Order) -> bool
-    requires within { place < length (given_pairs view.now) }
-    requires given { (d : Pair) → pair ≡ slice_index_or (given_pairs view.now) place d }
-    requires order { KnownOrder (given_pairs view.now) (place + 1) order }
-    ensures { result ≡ is_some (find (take place (given_pairs view.now)) pair.launch pair.capture) }
-{
-    match order {
-        Order::RisesTo(_) => false,
-        _ => view.joins_before(place, pair.launch, pair.capture),
+// A lawful entry of a file at its turn: its place, its pair, and the order of the file's pairs up to it.
+#[derive(Drop)]
+struct Turn<'f> {
+    view: FileView<'f>,
+    place: usize,
+    pair: Pair,
+    order: Order,
+    ghost within: { place < length (given_pairs view) },
+    ghost given: { (d : Pair) → pair ≡ slice_index_or (given_pairs view) place d },
+    ghost lawful: { judged (view_registers view) pair ≡ entry_pair pair },
+}
+
+impl Turn<'_> {
+    // A refusal of this entry, with its record.
+    fn fault(&self, refusal: Refusal) -> Fault
+        ensures { result ≡ record { refusal = refusal; «record» = Some (view_registers self.now.view + self.now.place) } }
+    {
+        self.view.fault_at(self.place, refusal)
+    }
+
+    // Whether an entry before this one is between the same registers. Where the pairs rise none is.
+    fn repeats(&self) -> bool
+        requires { KnownOrder (given_pairs self.now.view) (self.now.place + 1) self.now.order }
+        ensures { result ≡ is_some (find (take self.now.place (given_pairs self.now.view)) self.now.pair.launch self.now.pair.capture) }
+    {
+        match self.order {
+            Order::RisesTo(_) => false,
+            _ => {
+                let Pair {
+                    launch,
+                    capture,
+                    ..
+                } = self.pair;
+                self.view.joins_before(self.place, launch, capture)
+            }
+        }
     }
 }

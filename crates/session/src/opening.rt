@@ -1,6 +1,6 @@
-ghost use Rattle.std.specs.Prelude.{◌≡◌, ℕ, drop, IfOk, vec_len, MatchResult};
+ghost use Rattle.std.specs.Prelude.{◌≡◌, ◌≤◌, ◌++◌, length, drop, replicate, IfOk, vec_len, MatchResult};
 ghost use Rattle.session.specs.Book.{book, fresh, open_answer};
-ghost use Rattle.timing.specs.Outcomes.{granted, refused};
+ghost use Rattle.timing.specs.Outcomes.{granted, refused, told};
 ghost use Rattle.timing.specs.Table.{refusal_number, refusal_values};
 
 use crate::Session;
@@ -29,24 +29,15 @@ impl Session {
         ensures book { MatchResult result (λ s. book s ≡ fresh registers (vec_len pair_memory)) (λ e. (e.pair_memory ≡ pair_memory) × (e.pin_memory ≡ pin_memory)) }
         ensures memory { IfOk result (λ s. (s.pairs ≡ pair_memory) × (drop registers s.pins.items ≡ drop registers pin_memory.items)) }
     {
-        if registers < 1 || registers > MAX_REGISTERS {
+        if let Err(refusal) = check_opening(registers, pin_memory.len()) {
             return Err(Unopened {
-                refusal: Refusal::RegisterCount,
-                pair_memory,
-                pin_memory,
-            });
-        }
-        if pin_memory.len() < registers as usize {
-            return Err(Unopened {
-                refusal: Refusal::MemoryTooShort,
+                refusal,
                 pair_memory,
                 pin_memory,
             });
         }
         let mut pins = pin_memory;
-        for register in 0..registers as usize {
-            pins[register] = FREE;
-        }
+        free_pins(pins.as_mut_slice(), registers as usize);
         Ok(Session {
             registers,
             pairs: pair_memory,
@@ -69,4 +60,25 @@ impl Session {
         } = self;
         (pairs, pins)
     }
+}
+
+// Whether a session can be opened for so many registers with so many bytes of pin memory: refused with 1 and 9.
+fn check_opening(registers: u32, pin_bytes: usize) -> Result<(), Refusal>
+    ensures { told result ≡ open_answer registers pin_bytes }
+{
+    if !(1..=MAX_REGISTERS).contains(&registers) {
+        return Err(Refusal::RegisterCount);
+    }
+    if pin_bytes < registers as usize {
+        return Err(Refusal::MemoryTooShort);
+    }
+    Ok(())
+}
+
+// Leaves so many registers free.
+fn free_pins(pins: &mut [u8], registers: usize)
+    requires { registers ≤ length pins.old }
+    ensures { pins.new ≡ replicate registers 2 ++ drop registers pins.old }
+{
+    pins[..registers].fill(FREE);
 }

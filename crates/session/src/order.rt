@@ -1,6 +1,6 @@
 ghost use Rattle.session.specs.Orders.{OrderedWith};
 ghost use Rattle.session.specs.Pairs.{Before};
-ghost use Rattle.std.specs.Prelude.{◌≡◌, true};
+ghost use Rattle.std.specs.Prelude.{◌≡◌, ◌↔◌, IsTrue};
 
 use timing::pair::Pair;
 
@@ -20,13 +20,8 @@ impl Order {
     {
         match self {
             Order::Nothing => Order::RisesTo(pair),
-            Order::RisesTo(last) => {
-                if is_before(last, pair) {
-                    Order::RisesTo(pair)
-                } else {
-                    Order::Mixed
-                }
-            }
+            Order::RisesTo(last) if is_before(last, pair) => Order::RisesTo(pair),
+            Order::RisesTo(_) => Order::Mixed,
             Order::Mixed => Order::Mixed,
         }
     }
@@ -34,8 +29,7 @@ impl Order {
 
 // Whether one pair comes before another, by launch and then by capture.
 fn is_before(first: Pair, second: Pair) -> bool
-    ensures { result ≡ true → Before first second }
+    ensures { IsTrue result ↔ Before first second }
 {
-    first.launch < second.launch
-        || (first.launch == second.launch && first.capture < second.capture)
+    (first.launch, first.capture) < (second.launch, second.capture)
 }

@@ -21,8 +21,9 @@ impl Session {
         if out.len() < bytes {
             return Err(Refusal::MemoryTooShort);
         }
-        for place in 0..self.used {
-            put_pair(out, place, self.pairs[place]);
+        let kept = self.kept();
+        for (place, pair) in kept.iter().enumerate() {
+            put_pair(out, place, *pair);
         }
         Ok(bytes)
     }

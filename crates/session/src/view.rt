@@ -35,9 +35,10 @@ impl DelaySource for SessionView<'_> {
     }
 
     fn entry(&self, place: usize) -> Result<Pair, Refusal> {
-        if place >= self.session.used {
-            return Err(Refusal::NoSuchEntry);
-        }
-        Ok(self.session.pairs[place])
+        self.session
+            .kept()
+            .get(place)
+            .copied()
+            .ok_or(Refusal::NoSuchEntry)
     }
 }

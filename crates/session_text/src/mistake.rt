@@ -1,7 +1,8 @@
+use std::error::Error;
 use std::fmt;
 
 // What is wrong with a line of a script.
-#[derive(Clone, Copy)]
+#[derive(Clone, Copy, Debug)]
 pub enum Mistake<'t> {
     UnknownCall(&'t str),
     // The form that a call of this kind has.
@@ -25,3 +26,5 @@ impl fmt::Display for Mistake<'_> {
         }
     }
 }
+
+impl Error for Mistake<'_> {}

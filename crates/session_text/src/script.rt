@@ -39,18 +39,19 @@ pub fn read_script<'t>(heap: Global, text: &'t str) -> Result<Script<'t>, AllocE
         lines: Vec::new(heap),
         mistakes: Vec::new(heap),
     };
-    for (index, line) in text.lines().enumerate() {
-        script.note(index.saturating_add(1), line.trim())?;
+    for (number, line) in (1..).zip(text.lines()) {
+        script.note(heap, number, line.trim())?;
     }
     Ok(script)
 }
 
 impl<'t> Script<'t> {
-    fn note(&mut self, number: usize, text: &'t str) -> Result<(), AllocError> {
-        match read_request(text) {
+    fn note(&mut self, heap: Global, number: usize, text: &'t str) -> Result<(), AllocError> {
+        let words: Vec<&str> = text.split_whitespace().collect(heap)?;
+        match read_request(&words) {
             Ok(None) => {}
             Ok(Some(request)) => {
-                if self.lines.is_empty() && !is_opening(&request) {
+                if self.lines.is_empty() && !matches!(request, Request::Open { .. }) {
                     self.mistakes.push((number, Mistake::NotOpen))?;
                 }
                 self.lines.push(ScriptLine {
@@ -63,8 +64,4 @@ impl<'t> Script<'t> {
         }
         Ok(())
     }
-}
-
-fn is_opening(request: &Request<'_>) -> bool {
-    matches!(request, Request::Open { .. })
 }

@@ -1,14 +1,9 @@
-use Rattle.std.proofs.Common.{arith}
-use Rattle.session.proofs.Kept.{entry_past, entry_there, lawful_there}
+use Rattle.session.proofs.Kept.{shown_by}
 use Rattle.session.proofs.view.SessionViewDelaySource.entry.Goals as goal
-
-pub returns-then-place-self : goal.returns-then-place-self
-returns-then-place-self c = record { value = entry_past c.args.self.now.session.now c.args.place (omega arith); lawful = tt }
 
 pub returns : goal.returns
 returns c =
     let s = c.args.self.now.session.now in
-    record {
-      value = entry_there s c.args.place c.index.result.now (omega arith) c.index.ensures;
-      lawful = lawful_there s c.args.place c.index.result.now (omega arith) c.index.ensures;
-    }
+    let g = rw c.kept.ensures at c.get.ensures.lookup in
+    let p = shown_by s c.args.place c.get.result c.copied.result c.ok_or.result g.0 g.1 c.copied.ensures c.ok_or.ensures.value in
+    record { value = p.0; lawful = p.1 }
