@@ -2,12 +2,13 @@
 use Rattle.std.specs.Prelude.{◌≡◌, ℕ, ◌<◌, List, [], ◌∷◌, ◌++◌, map, length, take, Ok, Err, vec_items, Result, Vec, slice_index_or}
 use Rattle.std.specs.declared.alloc.AllocError.{AllocError}
 use Rattle.std.specs.declared.alloc.Global.{Global}
+use Rattle.timing.specs.Domains.{domain_byte}
 use Rattle.timing.specs.Meaning.{answered, entry_at, pair}
 use Rattle.timing.specs.Outcomes.{Outcome, told}
 use Rattle.timing.specs.declared.pair.Pair.{Pair}
 use Rattle.timing.specs.declared.refusal.Refusal.{Refusal}
 use Rattle.delay_file.specs.declared.fault.Fault.{Fault}
-use Rattle.session.specs.Book.{Book, Lists, add_answer, added, retime_answer, retimed, drop_answer, dropped, pin_answer, pin_byte, pinned, ceiling_answer, ceiled, after}
+use Rattle.session.specs.Book.{Book, Lists, add_answer, added, retime_answer, retimed, drop_answer, dropped, pin_answer, pinned, ceiling_answer, ceiled, after}
 use Rattle.session.specs.Loads.{book_after, loaded_as, loading}
 use Rattle.session.specs.Saves.{saved_bytes}
 use Rattle.planner.specs.declared.call.Answer.{Answer}
@@ -20,7 +21,7 @@ abbrev pub next : Book → Call → Book
 next b (Add p) = after (add_answer b p) b (added b p)
 next b (Retime p) = after (retime_answer b p) b (retimed b p)
 next b (DropPair x y) = after (drop_answer b x y) b (dropped b x y)
-next b (Pin r d) = after (pin_answer b r) b (pinned b r (pin_byte d))
+next b (Pin r d) = after (pin_answer b r) b (pinned b r (domain_byte d))
 next b (Unpin r) = after (pin_answer b r) b (pinned b r 2)
 next b (SetCeiling c) = after (ceiling_answer c) b (ceiled b c)
 next b (Load file) = book_after (loading b (vec_items file)) b

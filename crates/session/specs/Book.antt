@@ -3,8 +3,8 @@
 use Rattle.std.specs.Prelude.{◌≡◌, ℕ, ◌+◌, ◌-◌, Bool, cond, not, ◌&&◌, ◌||◌, List, [], length, take, drop, replicate, is_some, Some, None, Ok, Err, vec_items, vec_len, Option, Result, ◌==◌, nat_le, slice_set}
 use Rattle.timing.specs.Meaning.{Entry, pair, faulty, judged}
 use Rattle.timing.specs.Outcomes.{Outcome, granted, refused, unless, offset_within}
+use Rattle.timing.specs.Domains.{domain_byte}
 use Rattle.timing.specs.declared.domain.Domain.{Domain}
-use Rattle.timing.specs.declared.domain.Domain.TheVariants.{Early, Late}
 use Rattle.timing.specs.declared.pair.Pair.{Pair}
 use Rattle.session.specs.Pairs.{joins, find}
 use Rattle.session.specs.declared.Session.{Session}
@@ -90,10 +90,10 @@ dropped b x y =
       ceiling = b.ceiling;
     }
 
--- the pin byte of a domain
-abbrev pub pin_byte : Domain → ℕ
-pin_byte Early = 0
-pin_byte Late = 1
+-- the pin byte of a register that is pinned to a domain, or left free
+abbrev pub pin_byte : Option Domain → ℕ
+pin_byte (Some d) = domain_byte d
+pin_byte None = 2
 
 -- pin and unpin: 2
 abbrev pub pin_answer : Book → ℕ → Outcome (Unit {0})

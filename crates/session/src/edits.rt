@@ -1,13 +1,13 @@
 ghost use Rattle.std.specs.Prelude.{◌≡◌, ◌<◌, true, is_some, IfSome, position, slice_index_or};
 ghost use Rattle.session.specs.Book.{Stays, add_answer, added, after, book, ceiled, ceiling_answer, drop_answer, dropped, has, kept, pin_answer, pin_byte, pinned, retime_answer, retimed};
 ghost use Rattle.session.specs.Pairs.{joins};
+ghost use Rattle.timing.specs.Domains.{domain_byte};
 ghost use Rattle.timing.specs.Outcomes.{granted, told};
 ghost use Rattle.timing.specs.declared.pair.Pair.{Pair};
 
 use crate::Session;
-use crate::pin_bytes::{EARLY, FREE, LATE};
-use timing::domain::Domain;
-use timing::limits::{MAX_ENTRIES, MAX_OFFSET};
+use timing::domain::{Domain, FREE};
+use timing::limits::{MAX_ENTRIES, check_offset};
 use timing::pair::Pair;
 use timing::refusal::Refusal;
 
@@ -62,14 +62,10 @@ impl Session {
     // Pins a register to a domain, in place of an older pin. Refused with 2.
     pub fn pin(&mut self, register: u32, domain: Domain) -> Result<(), Refusal>
         ensures answer { told result ≡ pin_answer (book self.old) register }
-        ensures next { book self.new ≡ after (told result) (book self.old) (pinned (book self.old) register (pin_byte domain)) }
+        ensures next { book self.new ≡ after (told result) (book self.old) (pinned (book self.old) register (domain_byte domain)) }
         ensures stays { Stays self.old self.new result }
     {
-        let byte = match domain {
-            Domain::Early => EARLY,
-            Domain::Late => LATE,
-        };
-        self.set_pin(register, byte)
+        self.set_pin(register, Some(domain))
     }
 
     // Leaves a register free. Refused with 2.
@@ -78,18 +74,19 @@ impl Session {
         ensures next { book self.new ≡ after (told result) (book self.old) (pinned (book self.old) register 2) }
         ensures stays { Stays self.old self.new result }
     {
-        self.set_pin(register, FREE)
+        self.set_pin(register, None)
     }
 
-    fn set_pin(&mut self, register: u32, byte: u8) -> Result<(), Refusal>
+    // Pins a register to a domain, or leaves it free.
+    fn set_pin(&mut self, register: u32, pin: Option<Domain>) -> Result<(), Refusal>
         ensures answer { told result ≡ pin_answer (book self.old) register }
-        ensures next { book self.new ≡ after (told result) (book self.old) (pinned (book self.old) register byte) }
+        ensures next { book self.new ≡ after (told result) (book self.old) (pinned (book self.old) register (pin_byte pin)) }
         ensures stays { Stays self.old self.new result }
     {
         if register >= self.registers {
             return Err(Refusal::NoSuchRegister);
         }
-        self.pins[register as usize] = byte;
+        self.pins[register as usize] = pin.map_or(FREE, Domain::byte);
         Ok(())
     }
 
@@ -99,9 +96,7 @@ impl Session {
         ensures next { book self.new ≡ after (told result) (book self.old) (ceiled (book self.old) ceiling) }
         ensures stays { Stays self.old self.new result }
     {
-        if ceiling > MAX_OFFSET {
-            return Err(Refusal::OffsetOutOfLimits);
-        }
+        check_offset(ceiling)?;
         self.ceiling = ceiling;
         Ok(())
     }

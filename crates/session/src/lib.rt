@@ -13,7 +13,6 @@ mod in_force;
 mod loading;
 pub mod opening;
 mod order;
-mod pin_bytes;
 mod saving;
 pub mod view;
 

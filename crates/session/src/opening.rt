@@ -4,7 +4,7 @@ ghost use Rattle.timing.specs.Outcomes.{granted, refused, told};
 ghost use Rattle.timing.specs.Table.{refusal_number, refusal_values};
 
 use crate::Session;
-use crate::pin_bytes::FREE;
+use timing::domain::FREE;
 use timing::limits::{MAX_OFFSET, MAX_REGISTERS};
 use timing::pair::Pair;
 use timing::refusal::Refusal;

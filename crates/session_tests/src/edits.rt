@@ -136,9 +136,7 @@ fn openings_refused(rt: HostRuntime) -> Result<(), Fail> {
         assert_eq!(rt; unopened.refusal, refusal);
         assert!(rt; unopened.pair_memory.as_slice() == [spare, spare].as_slice());
         assert_eq!(rt; unopened.pin_memory.len(), bytes);
-        for byte in unopened.pin_memory.as_slice() {
-            assert_eq!(rt; *byte, 9);
-        }
+        assert!(rt; unopened.pin_memory.iter().all(|&byte| byte == 9));
     }
     assert_eq!(rt; opened(heap, 4096, 0)?.pins().len(), 4096);
     assert_eq!(rt; opened(heap, 1, 0)?.registers(), 1);

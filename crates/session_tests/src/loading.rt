@@ -2,6 +2,7 @@
 use crate::making::{file, in_force, number, opened, pair, shows, stop};
 use session::Session;
 use std::alloc::Global;
+use std::collections::BTreeSet;
 use std::process::Abort;
 use std::test::Fail;
 use timing::domain::Domain;
@@ -122,10 +123,10 @@ fn files_that_do_not_fit_or_open(rt: HostRuntime) -> Result<(), Fail> {
     ];
     for (at, refused, record) in cases {
         let mut bytes = file(heap, 3, &[pair(0, 1, 2, 6), pair(1, 0, 2, 6)])?;
-        match bytes.get_mut(at) {
-            Some(byte) => *byte ^= 128,
-            None => return Err(Fail::new("the byte is there")),
-        }
+        let Some(byte) = bytes.get_mut(at) else {
+            return Err(Fail::new("the byte is there"));
+        };
+        *byte ^= 128;
         assert_eq!(rt;
             stopped(&rt, heap, &mut session, bytes.as_slice())?,
             (refused, record)
@@ -152,26 +153,22 @@ fn all_pairs(heap: Global, registers: u32) -> Result<Vec<Pair>, Fail> {
 
 // How many of the pairs between each two of so many registers a session shows.
 fn distinct(heap: Global, session: &Session, registers: u32) -> Result<usize, Fail> {
-    let mut seen = vec![in heap; false; 16_384]?;
-    let mut count = 0usize;
+    let mut seen = BTreeSet::new(heap);
     let view = session.view();
     for place in 0..view.entry_count() {
-        if let Ok(shown) = view.entry(place) {
-            let at = shown
-                .launch
-                .saturating_mul(registers)
-                .saturating_add(shown.capture);
-            if shown.capture < registers && shown.min == 2 && shown.max == 6 {
-                if let Some(mark) = seen.get_mut(at as usize) {
-                    if !*mark {
-                        *mark = true;
-                        count = count.saturating_add(1);
-                    }
-                }
+        match view.entry(place) {
+            Ok(Pair {
+                launch,
+                capture,
+                min: 2,
+                max: 6,
+            }) if launch < registers && capture < registers => {
+                seen.insert((launch, capture))?;
             }
+            _ => {}
         }
     }
-    Ok(count)
+    Ok(seen.len())
 }
 
 // 128 of 129 registers, each with each: as many pairs as a session may keep, though its memory has a place more.

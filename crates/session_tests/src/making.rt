@@ -21,30 +21,19 @@ pub(crate) fn pair(launch: u32, capture: u32, min: i32, max: i32) -> Pair {
 pub(crate) fn opened(heap: Global, registers: u32, places: usize) -> Result<Session, Fail> {
     let pairs = vec![in heap; pair(0, 0, 77, 77); places]?;
     let pins = vec![in heap; 0u8; registers as usize]?;
-    match Session::open(registers, pairs, pins) {
-        Ok(session) => Ok(session),
-        Err(_) => Err(Fail::new("the session opens")),
-    }
+    Session::open(registers, pairs, pins).map_err(|_| Fail::new("the session opens"))
 }
 
 // A delay file of so many registers and these pairs.
 pub(crate) fn file(heap: Global, registers: usize, pairs: &[Pair]) -> Result<Vec<u8>, Fail> {
-    let mut names: Vec<&[u8]> = Vec::new(heap);
-    for _ in 0..registers {
-        names.push(b"r")?;
-    }
-    match encode_file(heap, names.as_slice(), pairs) {
-        Ok(bytes) => Ok(bytes),
-        Err(_) => Err(Fail::new("the file is written")),
-    }
+    let name: &[u8] = b"r";
+    let names = vec![in heap; name; registers]?;
+    encode_file(heap, names.as_slice(), pairs).map_err(|_| Fail::new("the file is written"))
 }
 
 // The number that an edit was refused with, 0 where it was granted.
 pub(crate) fn number(answer: Result<(), Refusal>) -> u32 {
-    match answer {
-        Ok(()) => 0,
-        Err(refusal) => refusal.number(),
-    }
+    answer.err().map_or(0, |refusal| refusal.number())
 }
 
 // The number that a load was refused with and the record at fault, 0 and none where it was granted.
@@ -66,9 +55,9 @@ pub(crate) struct InForce {
 
 pub(crate) fn in_force(heap: Global, session: &Session) -> Result<InForce, Fail> {
     let mut records = vec![in heap; 0u8; session.pair_count().saturating_mul(32)]?;
-    if let Err(_) = session.save(records.as_mut_slice()) {
-        return Err(Fail::new("the memory is long enough"));
-    }
+    session
+        .save(records.as_mut_slice())
+        .map_err(|_| Fail::new("the memory is long enough"))?;
     Ok(InForce {
         registers: session.registers(),
         records,
@@ -78,25 +67,18 @@ pub(crate) fn in_force(heap: Global, session: &Session) -> Result<InForce, Fail>
 }
 
 // How often a session shows a pair.
-pub(crate) fn times_shown(session: &Session, wanted: Pair) -> u32 {
+pub(crate) fn times_shown(session: &Session, wanted: Pair) -> usize {
     let view = session.view();
-    let mut times = 0u32;
-    for place in 0..view.entry_count() {
-        if let Ok(shown) = view.entry(place) {
-            if shown == wanted {
-                times = times.saturating_add(1);
-            }
-        }
-    }
-    times
+    (0..view.entry_count())
+        .filter(|&place| view.entry(place) == Ok(wanted))
+        .count()
 }
 
 // Whether a session shows these pairs, each once, and no other.
 pub(crate) fn shows(session: &Session, pairs: &[Pair]) -> bool {
-    for wanted in pairs {
-        if times_shown(session, *wanted) != 1 {
-            return false;
-        }
-    }
-    session.pair_count() == pairs.len() && session.view().entry_count() == pairs.len()
+    pairs
+        .iter()
+        .all(|&wanted| times_shown(session, wanted) == 1)
+        && session.pair_count() == pairs.len()
+        && session.view().entry_count() == pairs.len()
 }

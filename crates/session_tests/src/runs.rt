@@ -21,15 +21,17 @@ enum Seen {
     Shown(Result<Pair, Refusal>),
 }
 
-fn seen_of(answer: &Answer) -> Seen {
-    match answer {
-        Answer::Edited(result) => Seen::Edited(*result),
-        Answer::Loaded(result) => Seen::Loaded(*result),
-        Answer::Saved(Ok(bytes)) => Seen::Saved(Some(bytes.len())),
-        Answer::Saved(Err(_)) => Seen::Saved(None),
-        Answer::Registers(count) => Seen::Registers(*count),
-        Answer::Entries(count) => Seen::Entries(*count),
-        Answer::Shown(result) => Seen::Shown(*result),
+impl From<&Answer> for Seen {
+    fn from(answer: &Answer) -> Seen {
+        match answer {
+            Answer::Edited(result) => Seen::Edited(*result),
+            Answer::Loaded(result) => Seen::Loaded(*result),
+            Answer::Saved(Ok(bytes)) => Seen::Saved(Some(bytes.len())),
+            Answer::Saved(Err(_)) => Seen::Saved(None),
+            Answer::Registers(count) => Seen::Registers(*count),
+            Answer::Entries(count) => Seen::Entries(*count),
+            Answer::Shown(result) => Seen::Shown(*result),
+        }
     }
 }
 
@@ -39,7 +41,7 @@ const GRANTED: Seen = Seen::Edited(Ok(()));
 fn check_answers(rt: &impl Abort, answers: &[Answer], expected: &[Seen]) {
     assert_eq!(rt; answers.len(), expected.len());
     for (answer, wanted) in answers.iter().zip(expected) {
-        assert_eq!(rt; seen_of(answer), *wanted);
+        assert_eq!(rt; Seen::from(answer), *wanted);
     }
 }
 

@@ -35,11 +35,7 @@ fn memory_to_save_into(rt: HostRuntime) -> Result<(), Fail> {
     assert!(rt; &long[96..100] == [9, 9, 9, 9].as_slice());
     let view = session.view();
     assert_eq!(rt; view.entry_count(), 3);
-    for (place, record) in [
-        (0usize, &exact[0..32]),
-        (1, &exact[32..64]),
-        (2, &exact[64..96]),
-    ] {
+    for (place, record) in exact.chunks_exact(32).enumerate() {
         let Ok(shown) = view.entry(place) else {
             return Err(Fail::new("the entry is there"));
         };
