@@ -157,12 +157,14 @@ fn distinct(heap: Global, session: &Session, registers: u32) -> Result<usize, Fa
     let view = session.view();
     for place in 0..view.entry_count() {
         match view.entry(place) {
-            Ok(Pair {
-                launch,
-                capture,
-                min: 2,
-                max: 6,
-            }) if launch < registers && capture < registers => {
+            Ok(
+                Pair {
+                    launch,
+                    capture,
+                    min: 2,
+                    max: 6,
+                },
+            ) if launch < registers && capture < registers => {
                 seen.insert((launch, capture))?;
             }
             _ => {}

@@ -3,7 +3,6 @@ use crate::mistake::Mistake;
 use crate::script::Request;
 use circuit_text::line::read_delay;
 use planner::call::Call;
-use timing::domain::Domain;
 use timing::limits::MAX_ENTRIES;
 use timing::pair::Pair;
 
@@ -46,14 +45,13 @@ fn read_call<'t>(words: &[&'t str]) -> Result<Call, Mistake<'t>> {
             launch: number(launch)?,
             capture: number(capture)?,
         }),
-        ["pin", register, "early"] => Ok(Call::Pin {
-            register: number(register)?,
-            domain: Domain::Early,
-        }),
-        ["pin", register, "late"] => Ok(Call::Pin {
-            register: number(register)?,
-            domain: Domain::Late,
-        }),
+        ["pin", register, domain] => {
+            let domain = domain.parse().map_err(|_| misformed(words))?;
+            Ok(Call::Pin {
+                register: number(register)?,
+                domain,
+            })
+        }
         ["unpin", register] => Ok(Call::Unpin(number(register)?)),
         ["ceiling", ceiling] => Ok(Call::SetCeiling(number(ceiling)?)),
         ["registers"] => Ok(Call::RegisterCount),
