@@ -1,83 +1,65 @@
 ghost use Rattle.clockplan.specs.Verdicts.{grants, is_granted};
 ghost use Rattle.delay_file.specs.Files.{view_meaning};
-ghost use Rattle.plan_file.specs.Drafts.{check_answer};
-ghost use Rattle.plan_file.specs.Laws.{Ready};
-ghost use Rattle.std.specs.Prelude.{◌≡◌, IfOk, Decides};
-ghost use Rattle.timing.specs.Plans.{Legal, domains_of};
+ghost use Rattle.plan_file.specs.Draft.{IsLegal, IsReady, draft_answer};
+ghost use Rattle.std.specs.Prelude.{◌≡◌, ◌↔◌, IfOk, IsTrue};
 
 use crate::commands::{Outcome, Paths};
-use crate::files::read_bytes;
-use crate::inputs::{Inputs, open_inputs};
-use crate::options::{FREE, read_check_options};
+use crate::options::read_check_options;
+use crate::planned::{Planned, with_planned};
 use crate::problem::tell_problem;
 use crate::refused::tell_refused;
-use plan_file::checked;
+use plan_file::checked::{self, RefusedDraft};
 use std::alloc::Global;
 use std::fmt::Write;
+use timing::domain::FREE;
 use timing::limits::MAX_REGISTERS;
 
 // Says whether a plan is legal for a delay file, under a ceiling and pins; else what it breaks first.
-pub(crate) fn check<'w>(
+pub(crate) fn check(
     rt: &HostRuntime,
-    paths: Paths<'w>,
-    options: &'w [String],
+    paths: Paths<'_>,
+    options: &[&str],
 ) -> anyhow::Result<Outcome> {
-    let heap = rt.alloc();
-    let file = read_bytes(rt, paths.file)?;
-    let plan = read_bytes(rt, paths.plan)?;
-    let mut domains = vec![in heap; 0; MAX_REGISTERS as usize]?;
-    let mut out = String::new(heap);
-    let opened = open_inputs(
+    with_planned(
+        rt,
         paths,
-        file.as_slice(),
-        plan.as_slice(),
-        domains.as_mut_slice(),
-    );
-    let outcome = match opened {
-        Ok(inputs) => judge(heap, paths, &inputs, domains.as_slice(), options, &mut out)?,
-        Err(problem) => tell_problem(problem, &mut out)?,
-    };
-    rt.print(out.as_str())?;
-    Ok(outcome)
+        |planned, out| judge(rt.alloc(), paths, planned, options, out),
+    )
 }
 
 // Reads the options and puts the plan through the check.
-fn judge<'w>(
+fn judge(
     heap: Global,
-    paths: Paths<'w>,
-    inputs: &Inputs<'_>,
-    domains: &[u8],
-    options: &'w [String],
+    paths: Paths<'_>,
+    planned: Planned<'_>,
+    options: &[&str],
     out: &mut String,
 ) -> anyhow::Result<Outcome> {
     let mut pins = vec![in heap; FREE; MAX_REGISTERS as usize]?;
-    let read = read_check_options(&inputs.view, paths.file, options, pins.as_mut_slice());
-    let ceiling = match read {
-        Ok(ceiling) => ceiling,
-        Err(problem) => return tell_problem(problem, out),
-    };
-    tell_judgement(inputs, domains, pins.as_slice(), ceiling, out)
+    match read_check_options(&planned.view, paths.file, options, &mut pins) {
+        Ok(ceiling) => tell_judgement(planned, &pins, ceiling, out),
+        Err(problem) => tell_problem(problem, out),
+    }
 }
 
 // Says whether a plan is legal. It is granted exactly where the check passes it.
 fn tell_judgement(
-    inputs: &Inputs<'_>,
-    domains: &[u8],
+    planned: Planned<'_>,
     pins: &[u8],
     ceiling: u32,
     out: &mut String,
 ) -> anyhow::Result<Outcome>
-    ensures answer { IfOk result (λ o. is_granted o ≡ grants (check_answer (view_meaning inputs.now.view) pins.now ceiling inputs.now.numbers.period inputs.now.numbers.offset domains.now)) }
-    ensures legal { IfOk result (λ o. Ready (view_meaning inputs.now.view) pins.now ceiling inputs.now.numbers.period inputs.now.numbers.offset domains.now → Decides (is_granted o) (Legal (view_meaning inputs.now.view) pins.now ceiling inputs.now.numbers.period inputs.now.numbers.offset (domains_of domains.now))) }
+    ensures answer { IfOk result (λ o. is_granted o ≡ grants (draft_answer (view_meaning planned.entry.view) pins.now ceiling planned.entry.draft)) }
+    ensures legal { IfOk result (λ o. IsReady (view_meaning planned.entry.view) pins.now ceiling planned.entry.draft → (IsTrue (is_granted o) ↔ IsLegal (view_meaning planned.entry.view) pins.now ceiling planned.entry.draft)) }
 {
-    let draft = inputs.numbers.draft(domains);
-    match checked::check(&inputs.view, pins, ceiling, draft) {
+    let Planned { file, view, draft } = planned;
+    match checked::check(&view, pins, ceiling, draft) {
         Ok(_) => {
             writeln!(out, "legal")?;
             Ok(Outcome::Granted)
         }
-        Err(refused) => {
-            tell_refused(&inputs.view, ceiling, &refused, out)?;
+        Err(RefusedDraft { refusal, draft }) => {
+            tell_refused(&Planned { file, view, draft }, ceiling, refusal, out)?;
             Ok(Outcome::Refused)
         }
     }

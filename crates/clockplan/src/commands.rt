@@ -1,3 +1,8 @@
+ghost use Rattle.clockplan.specs.Verdicts.{is_granted};
+ghost use Rattle.std.specs.Prelude.{◌≡◌};
+
+use std::process::ExitCode;
+
 // What the program was asked to do. The options of a command are read by the command itself.
 #[derive(Clone, Copy)]
 pub enum Command<'w> {
@@ -10,11 +15,11 @@ pub enum Command<'w> {
     },
     Check {
         paths: Paths<'w>,
-        options: &'w [String],
+        options: &'w [&'w str],
     },
     Slack {
         paths: Paths<'w>,
-        options: &'w [String],
+        options: &'w [&'w str],
     },
     Report {
         paths: Paths<'w>,
@@ -33,10 +38,32 @@ pub struct Paths<'w> {
 }
 
 // Whether everything was granted; after a refusal the program ends with status 1.
-#[derive(Clone, Copy)]
+#[derive(Clone, Copy, PartialEq, Eq)]
 pub enum Outcome {
     Granted,
     Refused,
+}
+
+impl Outcome {
+    // Granted exactly where this holds.
+    pub(crate) fn granted_if(holds: bool) -> Outcome
+        ensures { is_granted result ≡ holds }
+    {
+        if holds {
+            Outcome::Granted
+        } else {
+            Outcome::Refused
+        }
+    }
+}
+
+impl From<Outcome> for ExitCode {
+    fn from(outcome: Outcome) -> ExitCode {
+        match outcome {
+            Outcome::Granted => ExitCode::SUCCESS,
+            Outcome::Refused => ExitCode::FAILURE,
+        }
+    }
 }
 
 pub const USAGE: &str = "clockplan: plan two clock domains from path delays
@@ -62,39 +89,23 @@ A refusal is printed as `refused NUMBER: words` and ends with status 1.
 ";
 
 // The command that these words are, if they are one.
-pub(crate) fn read_command<'w>(words: &'w [String]) -> Option<Command<'w>> {
-    match words {
-        [name, text, file] if name.as_str() == "pack" => Some(Command::Pack {
-            text: text.as_str(),
-            file: file.as_str(),
+pub(crate) fn read_command<'w>(words: &'w [&'w str]) -> Option<Command<'w>> {
+    match *words {
+        ["pack", text, file] => Some(Command::Pack { text, file }),
+        ["show", file] => Some(Command::Show { file }),
+        ["check", file, plan, ..] => Some(Command::Check {
+            paths: Paths { file, plan },
+            options: &words[3..],
         }),
-        [name, file] if name.as_str() == "show" => Some(Command::Show {
-            file: file.as_str(),
+        ["slack", file, plan, ..] => Some(Command::Slack {
+            paths: Paths { file, plan },
+            options: &words[3..],
         }),
-        [name, file, plan, options @ ..] if name.as_str() == "check" => Some(Command::Check {
-            paths: Paths {
-                file: file.as_str(),
-                plan: plan.as_str(),
-            },
-            options,
+        ["report", file, plan] => Some(Command::Report {
+            paths: Paths { file, plan },
         }),
-        [name, file, plan, options @ ..] if name.as_str() == "slack" => Some(Command::Slack {
-            paths: Paths {
-                file: file.as_str(),
-                plan: plan.as_str(),
-            },
-            options,
-        }),
-        [name, file, plan] if name.as_str() == "report" => Some(Command::Report {
-            paths: Paths {
-                file: file.as_str(),
-                plan: plan.as_str(),
-            },
-        }),
-        [name, script] if name.as_str() == "session" => Some(Command::Session {
-            script: script.as_str(),
-        }),
-        [name] if name.as_str() == "help" => Some(Command::Help),
+        ["session", script] => Some(Command::Session { script }),
+        ["help"] => Some(Command::Help),
         _ => None,
     }
 }

@@ -4,9 +4,10 @@
 mod check;
 mod commands;
 mod files;
-mod inputs;
+mod mistakes;
 mod options;
 mod pack;
+mod planned;
 mod problem;
 mod refused;
 mod report;
@@ -15,7 +16,6 @@ mod show;
 mod show_plan;
 mod shown;
 mod slack;
-mod words;
 
 use commands::{Command, Outcome, USAGE, read_command};
 use std::env;
@@ -23,8 +23,7 @@ use std::process::ExitCode;
 
 fn main(rt: HostRuntime) -> anyhow::Result<ExitCode> {
     match run(&rt) {
-        Ok(Outcome::Granted) => Ok(ExitCode::SUCCESS),
-        Ok(Outcome::Refused) => Ok(ExitCode::FAILURE),
+        Ok(outcome) => Ok(outcome.into()),
         Err(error) => {
             eprintln!(rt; "clockplan: {error}")?;
             Ok(ExitCode::FAILURE)
@@ -35,21 +34,18 @@ fn main(rt: HostRuntime) -> anyhow::Result<ExitCode> {
 // Performs the commands in the program's arguments, of which the first is the program's own path. They are separated by
 // `then`, and the first that is refused ends them.
 fn run(rt: &HostRuntime) -> anyhow::Result<Outcome> {
-    let mut words = Vec::new(rt.alloc());
-    for word in env::args(rt)?.skip(1) {
-        if word.as_str() == "then" {
-            if let Outcome::Refused = perform(rt, words.as_slice())? {
-                return Ok(Outcome::Refused);
-            }
-            words.clear();
-        } else {
-            words.push(word)?;
+    let heap = rt.alloc();
+    let arguments: Vec<String> = env::args(rt)?.skip(1).collect(heap)?;
+    let words: Vec<&str> = arguments.iter().map(|word| word.as_str()).collect(heap)?;
+    for command in words.split(|word| *word == "then") {
+        if perform(rt, command)? == Outcome::Refused {
+            return Ok(Outcome::Refused);
         }
     }
-    perform(rt, words.as_slice())
+    Ok(Outcome::Granted)
 }
 
-fn perform(rt: &HostRuntime, words: &[String]) -> anyhow::Result<Outcome> {
+fn perform(rt: &HostRuntime, words: &[&str]) -> anyhow::Result<Outcome> {
     let Some(command) = read_command(words) else {
         rt.eprint(USAGE)?;
         return Ok(Outcome::Refused);

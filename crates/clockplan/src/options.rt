@@ -1,6 +1,7 @@
 // The options of the commands. They come in twos: the word of the option, and its value.
-ghost use Rattle.std.specs.Prelude.{◌≡◌, ℕ, ◌<◌, List, ◌++◌, IfOk, Some, Decides, MatchOption, ◌≢◌, slice_set};
-ghost use Rattle.clockplan.specs.Pins.{AsksFor, OnlyNamed, Unnamed, pin_end, pin_of};
+ghost use Rattle.std.specs.Prelude.{◌≡◌, ℕ, ◌<◌, ◌↔◌, List, ◌++◌, IfOk, Some, IsTrue, MatchOption, ◌≢◌, slice_set};
+ghost use Rattle.clockplan.specs.Pins.{OnlyNamed, Unnamed, pin_end};
+ghost use Rattle.timing.specs.Domains.{domain_byte};
 ghost use Rattle.delay_file.specs.Files.{register_name, view_registers};
 ghost use Rattle.timing.specs.declared.domain.Domain.{Domain};
 
@@ -8,9 +9,6 @@ use crate::problem::{Problem, Wanted};
 use delay_file::view::FileView;
 use timing::domain::Domain;
 use timing::limits::MAX_OFFSET;
-
-// The pin byte of a register that may have either clock.
-pub const FREE: u8 = 2;
 
 const CEILING: Wanted = Wanted {
     option: "--ceiling",
@@ -49,7 +47,7 @@ struct Pin<'w> {
 pub(crate) fn read_check_options<'w>(
     view: &FileView<'_>,
     file: &'w str,
-    words: &'w [String],
+    words: &'w [&'w str],
     pins: &mut [u8],
 ) -> Result<u32, Problem<'w>> {
     let mut ceiling = MAX_OFFSET;
@@ -66,80 +64,46 @@ pub(crate) fn read_check_options<'w>(
 }
 
 // Reads the options of `slack`: how many entries are to be listed.
-pub(crate) fn read_count<'w>(words: &'w [String]) -> Result<usize, Problem<'w>> {
+pub(crate) fn read_count<'w>(words: &'w [&'w str]) -> Result<usize, Problem<'w>> {
     let mut count = USUAL_COUNT;
     for option in words.chunks(2) {
-        count = match option_in(option) {
-            ("--count", value) => count_in(value)?,
-            (word, _) => {
-                return Err(Problem::UnknownOption {
-                    word,
-                    known: "--count N",
-                });
-            }
+        count = match *option {
+            ["--count", ref value @ ..] => value_of(COUNT, value, |text| text.parse().ok())?,
+            _ => return Err(unknown(option, "--count N")),
         };
     }
     Ok(count)
 }
 
-fn read_check_option<'w>(words: &'w [String]) -> Result<CheckOption<'w>, Problem<'w>> {
-    match option_in(words) {
-        ("--ceiling", value) => Ok(CheckOption::Ceiling(ceiling_in(value)?)),
-        ("--pin", value) => Ok(CheckOption::Pinned(pin_in(value)?)),
-        (word, _) => Err(Problem::UnknownOption {
-            word,
-            known: "--ceiling PS, and --pin NAME=early or --pin NAME=late",
-        }),
+fn read_check_option<'w>(option: &'w [&'w str]) -> Result<CheckOption<'w>, Problem<'w>> {
+    // Any ceiling that fits 32 bits is read; whether it keeps its limit is for the check to say.
+    match *option {
+        ["--ceiling", ref value @ ..] => {
+            value_of(CEILING, value, |text| text.parse().ok()).map(CheckOption::Ceiling)
+        }
+        ["--pin", ref value @ ..] => value_of(PIN, value, asked_pin).map(CheckOption::Pinned),
+        _ => Err(unknown(
+            option,
+            "--ceiling PS, and --pin NAME=early or --pin NAME=late",
+        )),
     }
 }
 
-// The word of an option, and its value if one follows.
-fn option_in<'w>(words: &'w [String]) -> (&'w str, Option<&'w str>) {
-    match words {
-        [word, value, ..] => (word.as_str(), Some(value.as_str())),
-        [word] => (word.as_str(), None),
-        [] => ("", None),
+fn unknown<'w>(option: &[&'w str], known: &'static str) -> Problem<'w> {
+    Problem::UnknownOption {
+        word: option.first().copied().unwrap_or_default(),
+        known,
     }
 }
 
-// Any ceiling that fits 32 bits is read; whether it keeps its limit is for the check to say.
-fn ceiling_in<'w>(value: Option<&'w str>) -> Result<u32, Problem<'w>> {
-    let Some(text) = value else {
-        return Err(Problem::NoValue(CEILING));
-    };
-    match text.parse::<u32>() {
-        Ok(ceiling) => Ok(ceiling),
-        Err(_) => Err(Problem::WrongValue {
-            wanted: CEILING,
-            value: text,
-        }),
-    }
-}
-
-fn count_in<'w>(value: Option<&'w str>) -> Result<usize, Problem<'w>> {
-    let Some(text) = value else {
-        return Err(Problem::NoValue(COUNT));
-    };
-    match text.parse::<usize>() {
-        Ok(count) => Ok(count),
-        Err(_) => Err(Problem::WrongValue {
-            wanted: COUNT,
-            value: text,
-        }),
-    }
-}
-
-fn pin_in<'w>(value: Option<&'w str>) -> Result<Pin<'w>, Problem<'w>> {
-    let Some(text) = value else {
-        return Err(Problem::NoValue(PIN));
-    };
-    match asked_pin(text) {
-        Some(pin) => Ok(pin),
-        None => Err(Problem::WrongValue {
-            wanted: PIN,
-            value: text,
-        }),
-    }
+// What is read of the value of an option, if one follows it.
+fn value_of<'w, T, F>(wanted: Wanted, words: &[&'w str], read: F) -> Result<T, Problem<'w>>
+where
+    F: FnOnce(&'w str) -> Option<T>,
+    requires { F.IsAlwaysCallable read }
+{
+    let value = words.first().copied().ok_or(Problem::NoValue(wanted))?;
+    read(value).ok_or(Problem::WrongValue { wanted, value })
 }
 
 // The pin that a text asks for. Its name may hold `=` itself, so only the end of the text is taken off.
@@ -178,40 +142,20 @@ fn register_named<'w>(view: &FileView<'_>, file: &'w str, name: &'w str) -> Resu
 fn first_named(view: &FileView<'_>, from: u32, name: &str) -> Option<u32>
     ensures { MatchOption result (Unnamed view.now name.now from (view_registers view.now)) (λ k. (k < view_registers view.now) × (register_name view.now k ≡ Some name.now) × Unnamed view.now name.now from k) }
 {
-    for number in from..view.registers() {
-        if is_named(view, number, name) {
-            return Some(number);
-        }
-    }
-    None
+    (from..view.registers()).find(|number| is_named(view, *number, name))
 }
 
 fn is_named(view: &FileView<'_>, number: u32, name: &str) -> bool
-    ensures { Decides result (register_name view.now number ≡ Some name.now) }
+    ensures { IsTrue result ↔ (register_name view.now number ≡ Some name.now) }
 {
-    match view.name(number) {
-        Some(found) => found == name.as_bytes(),
-        None => false,
-    }
+    view.name(number) == Some(name.as_bytes())
 }
 
 // Pins a register, if there is memory for its pin.
 fn set_pin(pins: &mut [u8], register: u32, domain: Domain)
-    ensures { pins.new ≡ slice_set pins.old register (pin_of domain) }
+    ensures { pins.new ≡ slice_set pins.old register (domain_byte domain) }
 {
-    let at = register as usize;
-    if at < pins.len() {
-        pins[at] = pin_byte(domain);
-    }
-}
-
-// The pin byte that asks for a domain, which no other domain keeps.
-fn pin_byte(domain: Domain) -> u8
-    ensures value { result ≡ pin_of domain }
-    ensures asks { AsksFor result domain }
-{
-    match domain {
-        Domain::Early => 0,
-        Domain::Late => 1,
+    if let Some(pin) = pins.get_mut(register as usize) {
+        *pin = domain.byte();
     }
 }

@@ -1,8 +1,8 @@
 use crate::commands::Outcome;
 use crate::files::{read_text, write_bytes};
+use crate::mistakes::tell_mistakes;
 use crate::show::{record_of, show_faulty};
-use crate::shown::ShownFault;
-use circuit_text::circuit::{Circuit, read_circuit};
+use circuit_text::circuit::read_circuit;
 use delay_file::layout::RECORD_BYTES;
 use delay_file::view::FileView;
 use delay_file::whole_file::encode_file;
@@ -20,12 +20,13 @@ pub(crate) fn pack(rt: &HostRuntime, text_path: &str, file_path: &str) -> anyhow
     let pairs = circuit.pairs.len();
     println!(rt; "read {text_path}: registers {registers}, pairs {pairs}")?;
     if !circuit.mistakes.is_empty() {
-        return tell_mistakes(rt, &circuit, file_path);
+        tell_mistakes(rt, circuit.mistakes.iter())?;
+        println!(rt; "{file_path} is not written")?;
+        return Ok(Outcome::Refused);
     }
-    match encode_file(heap, circuit.names.as_slice(), circuit.pairs.as_slice()) {
-        Ok(bytes) => write_file(rt, file_path, bytes.as_slice()),
+    match encode_file(heap, &circuit.names, &circuit.pairs) {
+        Ok(bytes) => write_file(rt, file_path, &bytes),
         Err(WriteError::Refused(fault)) => {
-            let fault = ShownFault(fault);
             println!(rt; "{fault}")?;
             println!(rt; "{file_path} is not written")?;
             Ok(Outcome::Refused)
@@ -37,28 +38,17 @@ pub(crate) fn pack(rt: &HostRuntime, text_path: &str, file_path: &str) -> anyhow
 fn write_file(rt: &HostRuntime, path: &str, bytes: &[u8]) -> anyhow::Result<Outcome> {
     write_bytes(rt, path, bytes)?;
     let length = bytes.len();
-    let count = length / RECORD_BYTES;
-    println!(rt; "wrote {path}: records {count}, bytes {length}")?;
+    println!(rt;
+        "wrote {path}: records {}, bytes {length}",
+        length / RECORD_BYTES
+    )?;
     match FileView::open(bytes) {
         Ok(view) => tell_faulty(rt, &view),
         Err(fault) => {
-            let fault = ShownFault(fault);
             println!(rt; "{fault}")?;
             Ok(Outcome::Refused)
         }
     }
-}
-
-fn tell_mistakes(
-    rt: &HostRuntime,
-    circuit: &Circuit<'_>,
-    file_path: &str,
-) -> anyhow::Result<Outcome> {
-    for (line, problem) in circuit.mistakes.iter() {
-        println!(rt; "line {line}: {problem}")?;
-    }
-    println!(rt; "{file_path} is not written")?;
-    Ok(Outcome::Refused)
 }
 
 fn tell_faulty(rt: &HostRuntime, view: &FileView<'_>) -> anyhow::Result<Outcome> {
@@ -69,9 +59,5 @@ fn tell_faulty(rt: &HostRuntime, view: &FileView<'_>) -> anyhow::Result<Outcome>
         }
     }
     rt.print(out.as_str())?;
-    if out.is_empty() {
-        Ok(Outcome::Granted)
-    } else {
-        Ok(Outcome::Refused)
-    }
+    Ok(Outcome::granted_if(out.is_empty()))
 }

@@ -1,5 +1,4 @@
-use crate::commands::Outcome;
-use crate::shown::ShownFault;
+use crate::commands::{Outcome, Paths};
 use delay_file::fault::Fault;
 use std::fmt;
 use std::fmt::Write;
@@ -8,22 +7,33 @@ use std::fmt::Write;
 #[derive(Clone, Copy)]
 pub enum Problem<'a> {
     // A delay file that does not open, or a plan file that does not read.
-    File { path: &'a str, fault: Fault },
-    OtherCircuit(OtherCircuit<'a>),
-    UnknownOption { word: &'a str, known: &'static str },
+    File {
+        path: &'a str,
+        fault: Fault,
+    },
+    // A plan and a delay file that do not have the same number of registers.
+    OtherCircuit {
+        paths: Paths<'a>,
+        planned: u32,
+        registers: u32,
+    },
+    UnknownOption {
+        word: &'a str,
+        known: &'static str,
+    },
     NoValue(Wanted),
-    WrongValue { wanted: Wanted, value: &'a str },
-    NoSuchName { name: &'a str, file: &'a str },
-    NameRepeats { name: &'a str, file: &'a str },
-}
-
-// A plan and a delay file that do not have the same number of registers.
-#[derive(Clone, Copy)]
-pub struct OtherCircuit<'a> {
-    pub plan: &'a str,
-    pub planned: u32,
-    pub file: &'a str,
-    pub registers: u32,
+    WrongValue {
+        wanted: Wanted,
+        value: &'a str,
+    },
+    NoSuchName {
+        name: &'a str,
+        file: &'a str,
+    },
+    NameRepeats {
+        name: &'a str,
+        file: &'a str,
+    },
 }
 
 // What an option wants for a value.
@@ -35,33 +45,23 @@ pub struct Wanted {
 
 impl fmt::Display for Wanted {
     fn fmt<W: fmt::Write>(&self, f: &mut fmt::Formatter<W>) -> fmt::Result {
-        let option = self.option;
-        let value = self.value;
-        write!(f, "{option} wants {value}")
-    }
-}
-
-impl fmt::Display for OtherCircuit<'_> {
-    fn fmt<W: fmt::Write>(&self, f: &mut fmt::Formatter<W>) -> fmt::Result {
-        let plan = self.plan;
-        let planned = self.planned;
-        let file = self.file;
-        let registers = self.registers;
-        write!(
-            f,
-            "{plan} is a plan of {planned} registers, and {file} has {registers}"
-        )
+        write!(f, "{} wants {}", self.option, self.value)
     }
 }
 
 impl fmt::Display for Problem<'_> {
     fn fmt<W: fmt::Write>(&self, f: &mut fmt::Formatter<W>) -> fmt::Result {
         match self {
-            Problem::File { path, fault } => {
-                let fault = ShownFault(*fault);
-                write!(f, "{path}: {fault}")
-            }
-            Problem::OtherCircuit(other) => write!(f, "{other}"),
+            Problem::File { path, fault } => write!(f, "{path}: {fault}"),
+            Problem::OtherCircuit {
+                paths,
+                planned,
+                registers,
+            } => write!(
+                f,
+                "{} is a plan of {planned} registers, and {} has {registers}",
+                paths.plan, paths.file
+            ),
             Problem::UnknownOption { word, known } => {
                 write!(f, "`{word}` is no option here; there is {known}")
             }

@@ -1,12 +1,11 @@
 // What is said of a draft that was refused: the numbers and the names that show why.
 ghost use Rattle.std.specs.Prelude.{◌≡◌, ◌≢◌};
 
+use crate::planned::Planned;
 use crate::show::{record_of, show_faulty};
-use crate::shown::{ShownDomain, ShownFault, ShownPair, ShownRegister};
+use crate::shown::{ShownPair, ShownRegister};
 use delay_file::fault::Fault;
 use delay_file::view::FileView;
-use plan_file::checked::RefusedDraft;
-use plan_file::draft::Draft;
 use std::fmt;
 use std::fmt::Write;
 use timing::domain::Domain;
@@ -14,24 +13,39 @@ use timing::refusal::{Part, Refusal};
 
 // Why the check refused a draft. The refusal's number and words come first, and then what shows it.
 pub(crate) fn tell_refused(
-    view: &FileView<'_>,
+    planned: &Planned<'_>,
     ceiling: u32,
-    refused: &RefusedDraft<'_>,
+    refusal: Refusal,
     out: &mut String,
 ) -> anyhow::Result<()> {
-    match refused.refusal {
-        Refusal::FaultyEntry { place } => tell_faulty(view, place, out),
+    let fault = Fault::of_file(refusal);
+    match refusal {
+        Refusal::FaultyEntry { place } => tell_faulty(&planned.view, place, out),
         Refusal::DraftNotLegal {
-            part,
-            place,
+            part: Part::Ceiling,
             excess,
+            ..
         } => {
-            let fault = ShownFault(Fault::of_file(refused.refusal));
-            write!(out, "{fault}")?;
-            tell_broken(view, ceiling, &refused.draft, part, place, excess, out)
+            let offset = planned.draft.offset;
+            writeln!(
+                out,
+                "{fault} by {excess} ps (offset {offset}, ceiling {ceiling})"
+            )?;
+            Ok(())
         }
-        refusal => {
-            let fault = ShownFault(Fault::of_file(refusal));
+        Refusal::DraftNotLegal {
+            part: Part::Pin,
+            place,
+            ..
+        } => {
+            write!(out, "{fault}")?;
+            tell_pin(planned, place, out)
+        }
+        Refusal::DraftNotLegal { place, excess, .. } => {
+            write!(out, "{fault} by {excess} ps")?;
+            tell_entry(planned, place, out)
+        }
+        _ => {
             writeln!(out, "{fault}")?;
             Ok(())
         }
@@ -44,7 +58,7 @@ pub(crate) fn tell_faulty(
     place: usize,
     out: &mut String,
 ) -> anyhow::Result<()> {
-    let fault = ShownFault(Fault::of_file(Refusal::FaultyEntry { place }));
+    let fault = Fault::of_file(Refusal::FaultyEntry { place });
     writeln!(out, "{fault} at place {place}")?;
     if let Err(fault) = view.pair(place) {
         show_faulty(view, record_of(view, place), fault, out)?;
@@ -52,42 +66,12 @@ pub(crate) fn tell_faulty(
     Ok(())
 }
 
-// What a draft breaks first.
-fn tell_broken(
-    view: &FileView<'_>,
-    ceiling: u32,
-    draft: &Draft<'_>,
-    part: Part,
-    place: usize,
-    excess: u32,
-    out: &mut String,
-) -> anyhow::Result<()> {
-    match part {
-        Part::Ceiling => {
-            let offset = draft.offset;
-            writeln!(out, " by {excess} ps (offset {offset}, ceiling {ceiling})")?;
-        }
-        Part::Pin => tell_pin(view, draft, place, out)?,
-        Part::Setup | Part::Hold => {
-            write!(out, " by {excess} ps")?;
-            tell_entry(view, draft, place, out)?;
-        }
-    }
-    Ok(())
-}
-
 // A register that is not in its pinned domain is in the other one.
-fn tell_pin(
-    view: &FileView<'_>,
-    draft: &Draft<'_>,
-    place: usize,
-    out: &mut String,
-) -> anyhow::Result<()> {
+fn tell_pin(planned: &Planned<'_>, place: usize, out: &mut String) -> anyhow::Result<()> {
     let register = u32::try_from(place).unwrap_or(u32::MAX);
-    let domain = draft.domain(register);
-    let pinned = ShownDomain(other(domain));
-    let register = ShownRegister::named(view, register);
-    let domain = ShownDomain(domain);
+    let domain = planned.draft.domain(register);
+    let pinned = other(domain);
+    let register = ShownRegister::named(&planned.view, register);
     writeln!(out, " ({register} is {domain}, pinned {pinned})")?;
     Ok(())
 }
@@ -102,19 +86,14 @@ fn other(domain: Domain) -> Domain
 }
 
 // An entry with a broken limit: its record and pair, and when its registers are clocked.
-fn tell_entry(
-    view: &FileView<'_>,
-    draft: &Draft<'_>,
-    place: usize,
-    out: &mut String,
-) -> anyhow::Result<()> {
-    let record = record_of(view, place);
+fn tell_entry(planned: &Planned<'_>, place: usize, out: &mut String) -> anyhow::Result<()> {
+    let record = record_of(&planned.view, place);
     write!(out, " at record {record}")?;
-    if let Ok(pair) = view.pair(place) {
-        let launch = ShownClock::under(view, draft, pair.launch);
-        let capture = ShownClock::under(view, draft, pair.capture);
-        let period = draft.period;
-        let pair = ShownPair::named(view, pair);
+    if let Ok(pair) = planned.view.pair(place) {
+        let launch = ShownClock::of(planned, pair.launch);
+        let capture = ShownClock::of(planned, pair.capture);
+        let period = planned.draft.period;
+        let pair = ShownPair::named(&planned.view, pair);
         write!(out, ": {pair} ({launch}, {capture}, period {period})")?;
     }
     writeln!(out)?;
@@ -125,25 +104,22 @@ fn tell_entry(
 #[derive(Clone, Copy)]
 pub struct ShownClock<'a> {
     register: ShownRegister<'a>,
-    domain: ShownDomain,
+    domain: Domain,
     time: i64,
 }
 
 impl<'a> ShownClock<'a> {
-    fn under(view: &FileView<'a>, draft: &Draft<'_>, register: u32) -> ShownClock<'a> {
+    fn of(planned: &Planned<'a>, register: u32) -> ShownClock<'a> {
         ShownClock {
-            register: ShownRegister::named(view, register),
-            domain: ShownDomain(draft.domain(register)),
-            time: draft.clock_time(register),
+            register: ShownRegister::named(&planned.view, register),
+            domain: planned.draft.domain(register),
+            time: planned.draft.clock_time(register),
         }
     }
 }
 
 impl fmt::Display for ShownClock<'_> {
     fn fmt<W: fmt::Write>(&self, f: &mut fmt::Formatter<W>) -> fmt::Result {
-        let register = self.register;
-        let domain = self.domain;
-        let time = self.time;
-        write!(f, "{register} {domain} at {time}")
+        write!(f, "{} {} at {}", self.register, self.domain, self.time)
     }
 }

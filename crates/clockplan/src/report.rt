@@ -1,49 +1,41 @@
 use crate::commands::{Outcome, Paths};
-use crate::files::read_bytes;
-use crate::inputs::open_inputs;
-use crate::problem::Problem;
+use crate::planned::{Planned, with_planned};
+use crate::problem::{Problem, tell_problem};
 use plan_report::report;
+use std::alloc::Global;
 use std::str;
-use timing::limits::MAX_REGISTERS;
 
 // The memory that a report of the most registers wants.
 const REPORT_BYTES: usize = 64 + 32 * 4096;
 
 // Prints the report of a plan, with the names that a delay file has for its registers.
 pub(crate) fn report(rt: &HostRuntime, paths: Paths<'_>) -> anyhow::Result<Outcome> {
-    let heap = rt.alloc();
-    let file = read_bytes(rt, paths.file)?;
-    let plan = read_bytes(rt, paths.plan)?;
-    let mut domains = vec![in heap; 0; MAX_REGISTERS as usize]?;
-    let opened = open_inputs(
+    with_planned(
+        rt,
         paths,
-        file.as_slice(),
-        plan.as_slice(),
-        domains.as_mut_slice(),
-    );
-    let inputs = match opened {
-        Ok(inputs) => inputs,
-        Err(problem) => return tell(rt, problem),
-    };
-    let draft = inputs.numbers.draft(domains.as_slice());
+        |planned, out| tell_report(rt.alloc(), paths, &planned, out),
+    )
+}
+
+fn tell_report(
+    heap: Global,
+    paths: Paths<'_>,
+    planned: &Planned<'_>,
+    out: &mut String,
+) -> anyhow::Result<Outcome> {
     let mut text = vec![in heap; 0; REPORT_BYTES]?;
-    match report::report(file.as_slice(), &draft, text.as_mut_slice()) {
+    match report::report(planned.file, &planned.draft, &mut text) {
         Ok(length) => {
             text.truncate(length);
-            rt.print(str::from_utf8(text.as_slice())?)?;
+            out.push_str(str::from_utf8(&text)?)?;
             Ok(Outcome::Granted)
         }
-        Err(fault) => tell(
-            rt,
+        Err(fault) => tell_problem(
             Problem::File {
                 path: paths.file,
                 fault,
             },
+            out,
         ),
     }
-}
-
-fn tell(rt: &HostRuntime, problem: Problem<'_>) -> anyhow::Result<Outcome> {
-    println!(rt; "{problem}")?;
-    Ok(Outcome::Refused)
 }

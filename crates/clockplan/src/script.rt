@@ -1,6 +1,6 @@
 use crate::commands::Outcome;
 use crate::files::{read_bytes, read_text, write_bytes};
-use crate::shown::ShownFault;
+use crate::mistakes::tell_mistakes;
 use delay_file::fault::Fault;
 use delay_file::layout::RECORD_BYTES;
 use delay_file::view::FileView;
@@ -9,6 +9,7 @@ use planner::runs::step;
 use session::Session;
 use session_text::script::{Request, Script, ScriptLine, read_script};
 use std::fmt::Write;
+use timing::domain::FREE;
 use timing::limits::{MAX_ENTRIES, MAX_REGISTERS};
 use timing::pair::Pair;
 use timing::refusal::Refusal;
@@ -20,7 +21,13 @@ pub(crate) fn session(rt: &HostRuntime, path: &str) -> anyhow::Result<Outcome> {
     let text = read_text(rt, path)?;
     let script = read_script(heap, text.as_str())?;
     if !script.mistakes.is_empty() {
-        return tell_mistakes(rt, &script, path);
+        let mistakes = script
+            .mistakes
+            .iter()
+            .map(|(line, mistake)| (line, mistake));
+        tell_mistakes(rt, mistakes)?;
+        println!(rt; "nothing in {path} was performed")?;
+        return Ok(Outcome::Refused);
     }
     let mut out = String::new(heap);
     let mut desk = Desk {
@@ -33,19 +40,7 @@ pub(crate) fn session(rt: &HostRuntime, path: &str) -> anyhow::Result<Outcome> {
     }
     desk.sum_up(&mut out)?;
     rt.print(out.as_str())?;
-    if desk.refused == 0 {
-        Ok(Outcome::Granted)
-    } else {
-        Ok(Outcome::Refused)
-    }
-}
-
-fn tell_mistakes(rt: &HostRuntime, script: &Script<'_>, path: &str) -> anyhow::Result<Outcome> {
-    for (line, mistake) in script.mistakes.iter() {
-        println!(rt; "line {line}: {mistake}")?;
-    }
-    println!(rt; "nothing in {path} was performed")?;
-    Ok(Outcome::Refused)
+    Ok(Outcome::granted_if(desk.refused == 0))
 }
 
 // The session that a script works on, and how its calls went.
@@ -63,33 +58,31 @@ impl Desk {
         line: &ScriptLine<'_>,
         out: &mut String,
     ) -> anyhow::Result<()> {
-        let number = line.number;
-        let text = line.text;
-        write!(out, "line {number}: {text}: ")?;
-        if self.answer(rt, &line.request, out)? {
-            self.granted = self.granted.saturating_add(1);
-        } else {
-            self.refused = self.refused.saturating_add(1);
-        }
+        write!(out, "line {}: {}: ", line.number, line.text)?;
+        let counted = match self.answer(rt, &line.request, out)? {
+            Outcome::Granted => &mut self.granted,
+            Outcome::Refused => &mut self.refused,
+        };
+        *counted = counted.saturating_add(1);
         Ok(())
     }
 
-    // Writes the answer to a request, and answers whether it was granted.
+    // Writes the answer to a request, and says whether it was granted.
     fn answer(
         &mut self,
         rt: &HostRuntime,
         request: &Request<'_>,
         out: &mut String,
-    ) -> anyhow::Result<bool> {
+    ) -> anyhow::Result<Outcome> {
         if let Request::Open { registers, places } = request {
             return self.open(rt, *registers, *places, out);
         }
         let Some(session) = &mut self.session else {
             writeln!(out, "no session is open")?;
-            return Ok(false);
+            return Ok(Outcome::Refused);
         };
         match request {
-            Request::Open { .. } => Ok(false),
+            Request::Open { .. } => Ok(Outcome::Refused),
             Request::Load(file) => load(rt, session, file, out),
             Request::Save { file, registers } => save(rt, session, file, *registers, out),
             Request::Perform(call) => tell_answer(step(session, rt.alloc(), call), out),
@@ -103,7 +96,7 @@ impl Desk {
         registers: u32,
         places: usize,
         out: &mut String,
-    ) -> anyhow::Result<bool> {
+    ) -> anyhow::Result<Outcome> {
         let heap = rt.alloc();
         let none = Pair {
             launch: 0,
@@ -144,13 +137,7 @@ impl Desk {
 
 // How many pin bytes pin their register.
 fn pinned_count(pins: &[u8]) -> usize {
-    let mut pinned: usize = 0;
-    for pin in pins {
-        if *pin < 2 {
-            pinned = pinned.saturating_add(1);
-        }
-    }
-    pinned
+    pins.iter().filter(|pin| **pin < FREE).count()
 }
 
 // Loads a file into a session.
@@ -159,12 +146,12 @@ fn load(
     session: &mut Session,
     path: &str,
     out: &mut String,
-) -> anyhow::Result<bool> {
+) -> anyhow::Result<Outcome> {
     match read_bytes(rt, path) {
         Ok(bytes) => tell_answer(step(session, rt.alloc(), &Call::Load(bytes)), out),
         Err(error) => {
             writeln!(out, "{error}")?;
-            Ok(false)
+            Ok(Outcome::Refused)
         }
     }
 }
@@ -176,7 +163,7 @@ fn save(
     path: &str,
     registers: Option<&str>,
     out: &mut String,
-) -> anyhow::Result<bool> {
+) -> anyhow::Result<Outcome> {
     let heap = rt.alloc();
     let mut file = Vec::new(heap);
     if let Some(named) = registers {
@@ -184,9 +171,8 @@ fn save(
         match register_records(bytes.as_slice(), session.registers()) {
             Ok(records) => file.extend_from_slice(records)?,
             Err(fault) => {
-                let fault = ShownFault(fault);
                 writeln!(out, "{named}: {fault}")?;
-                return Ok(false);
+                return Ok(Outcome::Refused);
             }
         }
     }
@@ -194,9 +180,12 @@ fn save(
         Answer::Saved(Ok(pairs)) => {
             file.extend_from_slice(pairs.as_slice())?;
             write_bytes(rt, path, file.as_slice())?;
-            let records = file.len() / RECORD_BYTES;
-            writeln!(out, "granted, wrote {path}: records {records}")?;
-            Ok(true)
+            writeln!(
+                out,
+                "granted, wrote {path}: records {}",
+                file.len() / RECORD_BYTES
+            )?;
+            Ok(Outcome::Granted)
         }
         answer => tell_answer(answer, out),
     }
@@ -212,51 +201,49 @@ fn register_records<'a>(bytes: &'a [u8], registers: u32) -> Result<&'a [u8], Fau
     Ok(&bytes[0..length.min(bytes.len())])
 }
 
-fn tell_answer(answer: Answer, out: &mut String) -> anyhow::Result<bool> {
+fn tell_answer(answer: Answer, out: &mut String) -> anyhow::Result<Outcome> {
     match answer {
         Answer::Edited(Ok(())) | Answer::Loaded(Ok(())) => tell_granted(out),
-        Answer::Edited(Err(refusal)) => tell_refusal(refusal, out),
-        Answer::Shown(Err(refusal)) => tell_refusal(refusal, out),
+        Answer::Edited(Err(refusal)) | Answer::Shown(Err(refusal)) => tell_refusal(refusal, out),
         Answer::Loaded(Err(fault)) => tell_fault(fault, out),
         Answer::Shown(Ok(pair)) => tell_pair(pair, out),
         Answer::Registers(count) => {
             writeln!(out, "registers {count}")?;
-            Ok(true)
+            Ok(Outcome::Granted)
         }
         Answer::Entries(count) => {
             writeln!(out, "entries {count}")?;
-            Ok(true)
+            Ok(Outcome::Granted)
         }
         Answer::Saved(saved) => {
-            let bytes = saved?;
-            let length = bytes.len();
-            writeln!(out, "granted, bytes {length}")?;
-            Ok(true)
+            writeln!(out, "granted, bytes {}", saved?.len())?;
+            Ok(Outcome::Granted)
         }
     }
 }
 
-fn tell_granted(out: &mut String) -> anyhow::Result<bool> {
+fn tell_granted(out: &mut String) -> anyhow::Result<Outcome> {
     writeln!(out, "granted")?;
-    Ok(true)
+    Ok(Outcome::Granted)
 }
 
-fn tell_refusal(refusal: Refusal, out: &mut String) -> anyhow::Result<bool> {
+fn tell_refusal(refusal: Refusal, out: &mut String) -> anyhow::Result<Outcome> {
     tell_fault(Fault::of_file(refusal), out)
 }
 
-fn tell_fault(fault: Fault, out: &mut String) -> anyhow::Result<bool> {
-    let fault = ShownFault(fault);
+fn tell_fault(fault: Fault, out: &mut String) -> anyhow::Result<Outcome> {
     writeln!(out, "{fault}")?;
-    Ok(false)
+    Ok(Outcome::Refused)
 }
 
 // A pair as `add` is given it.
-fn tell_pair(pair: Pair, out: &mut String) -> anyhow::Result<bool> {
-    let launch = pair.launch;
-    let capture = pair.capture;
-    let min = pair.min;
-    let max = pair.max;
+fn tell_pair(pair: Pair, out: &mut String) -> anyhow::Result<Outcome> {
+    let Pair {
+        launch,
+        capture,
+        min,
+        max,
+    } = pair;
     writeln!(out, "pair {launch} {capture} {min} {max}")?;
-    Ok(true)
+    Ok(Outcome::Granted)
 }

@@ -7,7 +7,7 @@ ghost use Rattle.timing.specs.Meaning.{entry_at};
 use crate::commands::Outcome;
 use crate::files::read_bytes;
 use crate::show_plan::{is_plan, show_plan};
-use crate::shown::{ShownFault, ShownPair, ShownRegister};
+use crate::shown::{ShownPair, ShownRegister};
 use delay_file::fault::Fault;
 use delay_file::layout::RECORD_BYTES;
 use delay_file::reading::{Record, decode};
@@ -34,13 +34,7 @@ fn show_delays(bytes: &[u8], out: &mut String) -> anyhow::Result<Outcome>
     ensures { IfOk result (λ o. is_granted o ≡ faultless (opening bytes.now)) }
 {
     match FileView::open(bytes) {
-        Ok(view) => {
-            if show_opened(&view, out)? == 0 {
-                Ok(Outcome::Granted)
-            } else {
-                Ok(Outcome::Refused)
-            }
-        }
+        Ok(view) => Ok(Outcome::granted_if(show_opened(&view, out)? == 0)),
         Err(fault) => {
             show_unopened(bytes, fault, out)?;
             Ok(Outcome::Refused)
@@ -111,7 +105,6 @@ pub(crate) fn show_faulty(
     fault: Fault,
     out: &mut String,
 ) -> anyhow::Result<()> {
-    let fault = ShownFault(fault);
     match view.record(record) {
         Ok(Record::Delay(pair)) => {
             let pair = ShownPair::named(view, pair);
@@ -131,8 +124,7 @@ pub(crate) fn show_faulty(
 
 // A file that does not open: why, and each of its records as it reads by itself.
 fn show_unopened(bytes: &[u8], fault: Fault, out: &mut String) -> anyhow::Result<()> {
-    let shown = ShownFault(fault);
-    writeln!(out, "{shown}")?;
+    writeln!(out, "{fault}")?;
     writeln!(
         out,
         "the file does not open; its records, each read by itself:"
@@ -140,10 +132,7 @@ fn show_unopened(bytes: &[u8], fault: Fault, out: &mut String) -> anyhow::Result
     for (number, part) in bytes.chunks(RECORD_BYTES).enumerate() {
         match decode(part, number) {
             Ok(record) => show_record(number, record, out)?,
-            Err(fault) => {
-                let fault = ShownFault(fault);
-                writeln!(out, "{fault}")?;
-            }
+            Err(fault) => writeln!(out, "{fault}")?,
         }
     }
     Ok(())

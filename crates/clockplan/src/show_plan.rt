@@ -1,24 +1,20 @@
 // Plan files, shown: a plan that reads, or the records of one that does not.
-ghost use Rattle.std.specs.Prelude.{◌≡◌, ◌+◌, ◌≤◌, ◌||◌, length, IfOk, ◌==◌, slice_index};
+ghost use Rattle.std.specs.Prelude.{◌≡◌, ◌||◌, IfOk, IfSome, ◌==◌, slice_index};
 ghost use Rattle.clockplan.specs.Counts.{late_count};
 ghost use Rattle.clockplan.specs.Verdicts.{is_granted, reads};
 ghost use Rattle.delay_file.specs.Bytes.{be32};
-ghost use Rattle.plan_file.specs.PlanReading.{be64, plan_reading};
+ghost use Rattle.plan_file.specs.PlanReading.{plan_reading};
 
 use crate::commands::Outcome;
-use crate::shown::ShownFault;
 use delay_file::fault::Fault;
-use delay_file::layout::RECORD_BYTES;
+use delay_file::fields::{number_at, word_at};
+use delay_file::layout::{Kind, RECORD_BYTES};
 use plan_file::plan_reader::{PlanNumbers, read_plan};
 use std::alloc::Global;
 use std::fmt;
 use std::fmt::Write;
 use timing::limits::MAX_REGISTERS;
 
-// The kinds of the records of a plan file.
-const HEAD: u8 = 16;
-
-const WORD: u8 = 17;
 // A word has the domains of this many registers.
 const WORD_REGISTERS: usize = 64;
 
@@ -26,10 +22,8 @@ const WORD_REGISTERS: usize = 64;
 pub(crate) fn is_plan(bytes: &[u8]) -> bool
     ensures { result ≡ (slice_index bytes.now 0 == 16) || (slice_index bytes.now 0 == 17) }
 {
-    if bytes.is_empty() {
-        return false;
-    }
-    bytes[0] == HEAD || bytes[0] == WORD
+    let first = bytes.first().copied();
+    first == Some(Kind::Head.byte()) || first == Some(Kind::Word.byte())
 }
 
 // The numbers of a head.
@@ -43,13 +37,10 @@ pub struct ShownHead {
 
 impl fmt::Display for ShownHead {
     fn fmt<W: fmt::Write>(&self, f: &mut fmt::Formatter<W>) -> fmt::Result {
-        let period = self.period;
-        let offset = self.offset;
-        let registers = self.registers;
-        let late = self.late;
         write!(
             f,
-            "period {period} offset {offset} registers {registers} late {late}"
+            "period {} offset {} registers {} late {}",
+            self.period, self.offset, self.registers, self.late
         )
     }
 }
@@ -82,7 +73,7 @@ fn show_read(numbers: PlanNumbers, domains: &[u8], out: &mut String) -> anyhow::
     };
     writeln!(out, "record 0: {head}")?;
     let end = domains.len().min(registers as usize);
-    for (word, part) in domains[0..end].chunks(WORD_REGISTERS).enumerate() {
+    for (word, part) in domains[..end].chunks(WORD_REGISTERS).enumerate() {
         show_word(word, part, out)?;
     }
     Ok(())
@@ -115,18 +106,11 @@ fn show_word(word: usize, domains: &[u8], out: &mut String) -> anyhow::Result<()
 fn late_in(domains: &[u8]) -> usize
     ensures { result ≡ late_count domains.now }
 {
-    let mut late: usize = 0;
-    for byte in domains {
-        if *byte == 1 {
-            late += 1;
-        }
-    }
-    late
+    domains.iter().filter(|byte| **byte == 1).count()
 }
 
 // A plan that does not read: why, and what each of its records says by itself.
 fn show_unread(bytes: &[u8], fault: Fault, out: &mut String) -> anyhow::Result<()> {
-    let fault = ShownFault(fault);
     writeln!(out, "{fault}")?;
     writeln!(out, "the plan does not read; its records, each by itself:")?;
     for (number, part) in bytes.chunks(RECORD_BYTES).enumerate() {
@@ -143,52 +127,34 @@ fn show_part(part: &[u8], out: &mut String) -> anyhow::Result<()> {
         writeln!(out, "{length} bytes")?;
         return Ok(());
     }
-    let kind = part[0];
-    let second = part[1];
-    match kind {
-        HEAD => {
-            let head = head_in(part);
-            writeln!(out, "kind {kind}, byte 1 is {second}: {head}")?;
+    let (kind, second) = (part[0], part[1]);
+    match Kind::try_from(kind) {
+        Ok(Kind::Head) => {
+            if let Some(head) = head_in(part) {
+                writeln!(out, "kind {kind}, byte 1 is {second}: {head}")?;
+            }
         }
-        WORD => {
-            let first = number_at(part, 4);
-            let word = word_at(part, 8);
-            writeln!(
-                out,
-                "kind {kind}, byte 1 is {second}: first {first} word {word:016x}"
-            )?;
+        Ok(Kind::Word) => {
+            if let (Some(first), Some(word)) = (number_at(part, 4), word_at(part, 8)) {
+                writeln!(
+                    out,
+                    "kind {kind}, byte 1 is {second}: first {first} word {word:016x}"
+                )?;
+            }
         }
         _ => writeln!(out, "kind {kind}")?,
     }
     Ok(())
 }
 
-fn head_in(part: &[u8]) -> ShownHead
-    requires { length part.now ≡ 32 }
-    ensures { (result.period ≡ be32 part.now 4) × (result.offset ≡ be32 part.now 8) × (result.registers ≡ be32 part.now 12) × (result.late ≡ be32 part.now 16) }
+// The numbers in the bytes of a head, if there are as many.
+fn head_in(part: &[u8]) -> Option<ShownHead>
+    ensures { IfSome result (λ h. (h.period ≡ be32 part.now 4) × (h.offset ≡ be32 part.now 8) × (h.registers ≡ be32 part.now 12) × (h.late ≡ be32 part.now 16)) }
 {
-    ShownHead {
-        period: number_at(part, 4),
-        offset: number_at(part, 8),
-        registers: number_at(part, 12),
-        late: number_at(part, 16),
-    }
-}
-
-// The number in the four bytes from `at` on.
-fn number_at(bytes: &[u8], at: usize) -> u32
-    requires { at + 4 ≤ length bytes.now }
-    ensures { result ≡ be32 bytes.now at }
-{
-    u32::from_be_bytes([bytes[at], bytes[at + 1], bytes[at + 2], bytes[at + 3]])
-}
-
-// The number in the eight bytes from `at` on.
-fn word_at(bytes: &[u8], at: usize) -> u64
-    requires { at + 8 ≤ length bytes.now }
-    ensures { result ≡ be64 bytes.now at }
-{
-    let high = u64::from(number_at(bytes, at));
-    let low = u64::from(number_at(bytes, at + 4));
-    high * 4_294_967_296 + low
+    Some(ShownHead {
+        period: number_at(part, 4)?,
+        offset: number_at(part, 8)?,
+        registers: number_at(part, 12)?,
+        late: number_at(part, 16)?,
+    })
 }

@@ -1,9 +1,6 @@
-// How names, delays, pairs, clocks and faults are printed. A pair is printed as a circuit's text has it.
-use crate::words::words;
-use delay_file::fault::Fault;
+// How names, delays and pairs are printed. A pair is printed as a circuit's text has it.
 use delay_file::view::FileView;
 use std::{fmt, str};
-use timing::domain::Domain;
 use timing::limits::MISSING_DELAY;
 use timing::pair::Pair;
 
@@ -22,31 +19,32 @@ impl<'a> ShownRegister<'a> {
             name: view.name(number),
         }
     }
+
+    // A register by its number.
+    fn numbered(number: u32) -> ShownRegister<'a> {
+        ShownRegister { number, name: None }
+    }
 }
 
 impl fmt::Display for ShownRegister<'_> {
     fn fmt<W: fmt::Write>(&self, f: &mut fmt::Formatter<W>) -> fmt::Result {
-        let number = self.number;
-        let Some(name) = self.name else {
-            return write!(f, "#{number}");
-        };
-        match str::from_utf8(name) {
-            Ok(text) => write!(f, "{text}"),
-            Err(_) => write!(f, "#{number}"),
+        match self.name.and_then(|name| str::from_utf8(name).ok()) {
+            Some(name) => f.write_str(name),
+            None => write!(f, "#{}", self.number),
         }
     }
 }
 
+// A delay, or `-` where it is missing.
 #[derive(Clone, Copy)]
 pub struct ShownDelay(pub i32);
 
 impl fmt::Display for ShownDelay {
     fn fmt<W: fmt::Write>(&self, f: &mut fmt::Formatter<W>) -> fmt::Result {
-        let delay = self.0;
-        if delay == MISSING_DELAY {
-            write!(f, "-")
+        if self.0 == MISSING_DELAY {
+            f.write_str("-")
         } else {
-            write!(f, "{delay}")
+            write!(f, "{}", self.0)
         }
     }
 }
@@ -73,14 +71,8 @@ impl<'a> ShownPair<'a> {
     // A pair by the numbers of its registers.
     pub(crate) fn numbered(pair: Pair) -> ShownPair<'a> {
         ShownPair {
-            launch: ShownRegister {
-                number: pair.launch,
-                name: None,
-            },
-            capture: ShownRegister {
-                number: pair.capture,
-                name: None,
-            },
+            launch: ShownRegister::numbered(pair.launch),
+            capture: ShownRegister::numbered(pair.capture),
             min: ShownDelay(pair.min),
             max: ShownDelay(pair.max),
         }
@@ -89,37 +81,10 @@ impl<'a> ShownPair<'a> {
 
 impl fmt::Display for ShownPair<'_> {
     fn fmt<W: fmt::Write>(&self, f: &mut fmt::Formatter<W>) -> fmt::Result {
-        let launch = self.launch;
-        let capture = self.capture;
-        let min = self.min;
-        let max = self.max;
-        write!(f, "pair {launch} {capture} {min} {max}")
-    }
-}
-
-#[derive(Clone, Copy)]
-pub struct ShownDomain(pub Domain);
-
-impl fmt::Display for ShownDomain {
-    fn fmt<W: fmt::Write>(&self, f: &mut fmt::Formatter<W>) -> fmt::Result {
-        match self.0 {
-            Domain::Early => write!(f, "early"),
-            Domain::Late => write!(f, "late"),
-        }
-    }
-}
-
-// A refusal by its number and in words, after the record at fault if one is.
-#[derive(Clone, Copy)]
-pub struct ShownFault(pub Fault);
-
-impl fmt::Display for ShownFault {
-    fn fmt<W: fmt::Write>(&self, f: &mut fmt::Formatter<W>) -> fmt::Result {
-        let number = self.0.refusal.number();
-        let words = words(self.0.refusal);
-        match self.0.record {
-            Some(record) => write!(f, "record {record}: refused {number}: {words}"),
-            None => write!(f, "refused {number}: {words}"),
-        }
+        write!(
+            f,
+            "pair {} {} {} {}",
+            self.launch, self.capture, self.min, self.max
+        )
     }
 }
