@@ -1,17 +1,18 @@
 // Two registers with a pair each way: 0 to 1 (2, 6) and 1 to 0 (1, 2). With register 1 late by 2, period 4 is legal.
+use crate::samples::{circuit_file, draft, opened};
 use delay_file::encoding::encode_pair;
 use delay_file::view::FileView;
-use delay_file::whole_file::encode_file;
 use plan_file::checked::check;
 use plan_file::draft::Draft;
 use plan_file::slack::slack_at;
 use std::alloc::Global;
 use std::test::Fail;
+use timing::domain;
 use timing::limits::MISSING_DELAY;
 use timing::pair::Pair;
 use timing::refusal::{Part, Refusal};
 
-const FREE: [u8; 2] = [2, 2];
+const FREE: [u8; 2] = [domain::FREE; 2];
 
 fn circuit(heap: Global) -> Result<Vec<u8>, Fail> {
     let pairs = [
@@ -28,10 +29,7 @@ fn circuit(heap: Global) -> Result<Vec<u8>, Fail> {
             max: 2,
         },
     ];
-    match encode_file(heap, &[b"ra", b"rb"], &pairs) {
-        Ok(bytes) => Ok(bytes),
-        Err(_) => Err(Fail::new("the circuit is written")),
-    }
+    circuit_file(heap, &[b"ra", b"rb"], &pairs)
 }
 
 // What check refuses a draft with, over a file.
@@ -39,21 +37,12 @@ fn refusal(file: &[u8], pins: &[u8], ceiling: u32, draft: Draft<'_>) -> Option<R
     let Ok(view) = FileView::open(file) else {
         return Some(Refusal::RegisterCount);
     };
-    match check(&view, pins, ceiling, draft) {
-        Ok(_) => None,
-        Err(refused) => Some(refused.refusal),
-    }
+    check(&view, pins, ceiling, draft)
+        .err()
+        .map(|refused| refused.refusal)
 }
 
-fn draft(period: u32, offset: u32) -> Draft<'static> {
-    Draft {
-        period,
-        offset,
-        domains: &[0, 1],
-    }
-}
-
-// The same with the domains turned.
+// The draft of two registers with the domains turned.
 fn turned(period: u32, offset: u32) -> Draft<'static> {
     Draft {
         period,
@@ -65,14 +54,11 @@ fn turned(period: u32, offset: u32) -> Draft<'static> {
 #[test]
 fn a_legal_draft_is_taken(rt: HostRuntime) -> Result<(), Fail> {
     let file = circuit(rt.alloc())?;
-    assert_eq!(rt;
-        refusal(file.as_slice(), &FREE, 1_000_000, draft(4, 2)),
-        None
-    );
-    assert_eq!(rt; refusal(file.as_slice(), &[0, 1], 2, draft(4, 2)), None);
+    assert_eq!(rt; refusal(&file, &FREE, 1_000_000, draft(4, 2)), None);
+    assert_eq!(rt; refusal(&file, &[0, 1], 2, draft(4, 2)), None);
     assert_eq!(rt;
         refusal(
-            file.as_slice(),
+            &file,
             &FREE,
             0,
             Draft {
@@ -98,29 +84,28 @@ fn not_legal(part: Part, place: usize, excess: u32) -> Option<Refusal> {
 #[test]
 fn the_first_broken_limit_is_named(rt: HostRuntime) -> Result<(), Fail> {
     let file = circuit(rt.alloc())?;
-    let bytes = file.as_slice();
     assert_eq!(rt;
-        refusal(bytes, &[1, 0], 1, draft(3, 2)),
+        refusal(&file, &[1, 0], 1, draft(3, 2)),
         not_legal(Part::Ceiling, 0, 1)
     );
     assert_eq!(rt;
-        refusal(bytes, &[0, 0], 2, draft(3, 2)),
+        refusal(&file, &[0, 0], 2, draft(3, 2)),
         not_legal(Part::Pin, 1, 0)
     );
     assert_eq!(rt;
-        refusal(bytes, &FREE, 2, draft(3, 2)),
+        refusal(&file, &FREE, 2, draft(3, 2)),
         not_legal(Part::Setup, 0, 1)
     );
     assert_eq!(rt;
-        refusal(bytes, &FREE, 3, draft(4, 3)),
+        refusal(&file, &FREE, 3, draft(4, 3)),
         not_legal(Part::Hold, 0, 1)
     );
     assert_eq!(rt;
-        refusal(bytes, &FREE, 9, turned(8, 3)),
+        refusal(&file, &FREE, 9, turned(8, 3)),
         not_legal(Part::Setup, 0, 1)
     );
     assert_eq!(rt;
-        refusal(bytes, &FREE, 9, turned(9, 3)),
+        refusal(&file, &FREE, 9, turned(9, 3)),
         not_legal(Part::Hold, 1, 2)
     );
     Ok(())
@@ -130,23 +115,23 @@ fn the_first_broken_limit_is_named(rt: HostRuntime) -> Result<(), Fail> {
 fn refusals_come_in_their_order(rt: HostRuntime) -> Result<(), Fail> {
     let mut file = circuit(rt.alloc())?;
     assert_eq!(rt;
-        refusal(file.as_slice(), &[], 1_000_001, draft(0, 0)),
+        refusal(&file, &[], 1_000_001, draft(0, 0)),
         Some(Refusal::PeriodOutOfLimits)
     );
     assert_eq!(rt;
-        refusal(file.as_slice(), &[], 1_000_001, draft(4_096_000_001, 0)),
+        refusal(&file, &[], 1_000_001, draft(4_096_000_001, 0)),
         Some(Refusal::PeriodOutOfLimits)
     );
     assert_eq!(rt;
-        refusal(file.as_slice(), &[], 1_000_001, draft(1, 0)),
+        refusal(&file, &[], 1_000_001, draft(1, 0)),
         Some(Refusal::OffsetOutOfLimits)
     );
     assert_eq!(rt;
-        refusal(file.as_slice(), &[], 0, draft(1, 1_000_001)),
+        refusal(&file, &[], 0, draft(1, 1_000_001)),
         Some(Refusal::OffsetOutOfLimits)
     );
     assert_eq!(rt;
-        refusal(file.as_slice(), &[2], 0, draft(4, 2)),
+        refusal(&file, &[2], 0, draft(4, 2)),
         Some(Refusal::MemoryTooShort)
     );
     let short = Draft {
@@ -155,7 +140,7 @@ fn refusals_come_in_their_order(rt: HostRuntime) -> Result<(), Fail> {
         domains: &[0],
     };
     assert_eq!(rt;
-        refusal(file.as_slice(), &FREE, 0, short),
+        refusal(&file, &FREE, 0, short),
         Some(Refusal::MemoryTooShort)
     );
     file.extend_from_slice(&encode_pair(Pair {
@@ -165,7 +150,7 @@ fn refusals_come_in_their_order(rt: HostRuntime) -> Result<(), Fail> {
         max: 6,
     }))?;
     assert_eq!(rt;
-        refusal(file.as_slice(), &[], 0, draft(4, 2)),
+        refusal(&file, &[], 0, draft(4, 2)),
         Some(Refusal::FaultyEntry { place: 2 })
     );
     Ok(())
@@ -183,10 +168,10 @@ fn too_many_entries(rt: HostRuntime) -> Result<(), Fail> {
     for _ in 0..16_382 {
         file.extend_from_slice(&record)?;
     }
-    assert_eq!(rt; refusal(file.as_slice(), &FREE, 9, draft(4, 2)), None);
+    assert_eq!(rt; refusal(&file, &FREE, 9, draft(4, 2)), None);
     file.extend_from_slice(&[0; 32])?;
     assert_eq!(rt;
-        refusal(file.as_slice(), &[], 9, draft(4, 2)),
+        refusal(&file, &[], 9, draft(4, 2)),
         Some(Refusal::TooManyEntries)
     );
     Ok(())
@@ -195,9 +180,7 @@ fn too_many_entries(rt: HostRuntime) -> Result<(), Fail> {
 #[test]
 fn slack_of_the_entries(rt: HostRuntime) -> Result<(), Fail> {
     let file = circuit(rt.alloc())?;
-    let Ok(view) = FileView::open(file.as_slice()) else {
-        return Err(Fail::new("the circuit opens"));
-    };
+    let view = opened(&file)?;
     assert_eq!(rt; slack_at(&view, &draft(4, 2), 0), Ok(0));
     assert_eq!(rt; slack_at(&view, &draft(4, 2), 1), Ok(0));
     assert_eq!(rt; slack_at(&view, &draft(3, 2), 0), Ok(-1));

@@ -8,4 +8,6 @@ mod reading;
 #[cfg(test)]
 mod reports;
 #[cfg(test)]
+mod samples;
+#[cfg(test)]
 mod writing;

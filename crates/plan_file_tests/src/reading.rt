@@ -1,7 +1,7 @@
 // Plan files read: back as what was written, and damaged in every byte.
 use crate::writing::written;
 use delay_file::fault::Fault;
-use plan_file::plan_reader::read_plan;
+use plan_file::plan_reader::{PlanNumbers, read_plan};
 use std::alloc::Global;
 use std::process::Abort;
 use std::test::Fail;
@@ -10,13 +10,16 @@ use timing::refusal::Refusal;
 // Why a file is refused, given memory for 8 registers; a refusal must leave that as it was.
 fn fault_of(rt: &impl Abort, bytes: &[u8]) -> Result<Option<Fault>, Fail> {
     let mut domains = [7u8; 8];
-    match read_plan(bytes, &mut domains) {
-        Ok(_) => Ok(None),
-        Err(fault) => {
-            assert_eq!(rt; domains == [7; 8], true);
-            Ok(Some(fault))
-        }
+    let fault = read_plan(bytes, &mut domains).err();
+    if fault.is_some() {
+        assert!(rt; domains == [7; 8]);
     }
+    Ok(fault)
+}
+
+// The numbers of a plan that reads.
+fn read(bytes: &[u8], domains: &mut [u8]) -> Result<PlanNumbers, Fail> {
+    read_plan(bytes, domains).map_err(|_| Fail::new("the plan reads"))
 }
 
 fn malformed(record: usize) -> Option<Fault> {
@@ -28,13 +31,16 @@ fn small(heap: Global) -> Result<Vec<u8>, Fail> {
     written(heap, &[1, 0, 1])
 }
 
+fn byte_at<'a>(bytes: &'a mut [u8], at: usize) -> Result<&'a mut u8, Fail> {
+    bytes
+        .get_mut(at)
+        .ok_or_else(|| Fail::new("the byte is there"))
+}
+
 // The same with one byte changed.
 fn changed(heap: Global, at: usize, mask: u8) -> Result<Vec<u8>, Fail> {
     let mut bytes = small(heap)?;
-    match bytes.get_mut(at) {
-        Some(byte) => *byte ^= mask,
-        None => return Err(Fail::new("the byte is there")),
-    }
+    *byte_at(&mut bytes, at)? ^= mask;
     Ok(bytes)
 }
 
@@ -57,13 +63,9 @@ fn every_byte_damaged(rt: HostRuntime) -> Result<(), Fail> {
     let heap = rt.alloc();
     for at in 0..64 {
         for mask in [1u8, 128] {
-            let expected = match at_fault(at, mask) {
-                Some(record) => malformed(record),
-                None => None,
-            };
             assert_eq!(rt;
-                fault_of(&rt, changed(heap, at, mask)?.as_slice())?,
-                expected
+                fault_of(&rt, &changed(heap, at, mask)?)?,
+                at_fault(at, mask).and_then(malformed)
             );
         }
     }
@@ -74,14 +76,16 @@ fn every_byte_damaged(rt: HostRuntime) -> Result<(), Fail> {
 fn numbers_and_domains(rt: HostRuntime) -> Result<(), Fail> {
     let bytes = small(rt.alloc())?;
     let mut domains = [7u8; 5];
-    let Ok(numbers) = read_plan(bytes.as_slice(), &mut domains) else {
-        return Err(Fail::new("the plan reads"));
-    };
+    let numbers = read(&bytes, &mut domains)?;
     assert_eq!(rt;
-        (numbers.period, numbers.offset, numbers.registers),
-        (7, 5, 3)
+        numbers,
+        PlanNumbers {
+            period: 7,
+            offset: 5,
+            registers: 3,
+        }
     );
-    assert_eq!(rt; domains == [1, 0, 1, 7, 7], true);
+    assert!(rt; domains == [1, 0, 1, 7, 7]);
     let draft = numbers.draft(&domains);
     assert_eq!(rt;
         (draft.period, draft.offset, draft.late_count(3)),
@@ -95,15 +99,15 @@ fn too_little_memory_comes_last(rt: HostRuntime) -> Result<(), Fail> {
     let heap = rt.alloc();
     let bytes = small(heap)?;
     let mut domains = [7u8; 2];
-    let Err(fault) = read_plan(bytes.as_slice(), &mut domains) else {
-        return Err(Fail::new("two bytes are too few"));
-    };
-    assert_eq!(rt; fault, Fault::of_file(Refusal::MemoryTooShort));
-    assert_eq!(rt; domains == [7, 7], true);
-    let Err(fault) = read_plan(changed(heap, 63, 1)?.as_slice(), &mut domains) else {
-        return Err(Fail::new("the word is malformed"));
-    };
-    assert_eq!(rt; Some(fault), malformed(1));
+    assert_eq!(rt;
+        read_plan(&bytes, &mut domains).err(),
+        Some(Fault::of_file(Refusal::MemoryTooShort))
+    );
+    assert!(rt; domains == [7, 7]);
+    assert_eq!(rt;
+        read_plan(&changed(heap, 63, 1)?, &mut domains).err(),
+        malformed(1)
+    );
     Ok(())
 }
 
@@ -112,32 +116,26 @@ fn records_that_lack_or_are_too_many(rt: HostRuntime) -> Result<(), Fail> {
     let heap = rt.alloc();
     let mut bytes = small(heap)?;
     bytes.extend_from_slice(&[0; 32])?;
-    assert_eq!(rt; fault_of(&rt, bytes.as_slice())?, malformed(2));
+    assert_eq!(rt; fault_of(&rt, &bytes)?, malformed(2));
     bytes.truncate(63);
     assert_eq!(rt;
-        fault_of(&rt, bytes.as_slice())?,
+        fault_of(&rt, &bytes)?,
         Some(Fault::of_file(Refusal::NotWholeRecords))
     );
     bytes.truncate(32);
-    assert_eq!(rt; fault_of(&rt, bytes.as_slice())?, malformed(1));
+    assert_eq!(rt; fault_of(&rt, &bytes)?, malformed(1));
     bytes.truncate(0);
-    assert_eq!(rt; fault_of(&rt, bytes.as_slice())?, malformed(0));
+    assert_eq!(rt; fault_of(&rt, &bytes)?, malformed(0));
     Ok(())
 }
 
 #[test]
 fn a_wrong_late_number_is_named_last(rt: HostRuntime) -> Result<(), Fail> {
     let heap = rt.alloc();
-    assert_eq!(rt;
-        fault_of(&rt, changed(heap, 19, 1)?.as_slice())?,
-        malformed(0)
-    );
+    assert_eq!(rt; fault_of(&rt, &changed(heap, 19, 1)?)?, malformed(0));
     let mut bytes = changed(heap, 19, 1)?;
-    match bytes.get_mut(33) {
-        Some(ones) => *ones = 3,
-        None => return Err(Fail::new("the byte is there")),
-    }
-    assert_eq!(rt; fault_of(&rt, bytes.as_slice())?, malformed(1));
+    *byte_at(&mut bytes, 33)? = 3;
+    assert_eq!(rt; fault_of(&rt, &bytes)?, malformed(1));
     Ok(())
 }
 
@@ -145,12 +143,10 @@ fn a_wrong_late_number_is_named_last(rt: HostRuntime) -> Result<(), Fail> {
 fn goes_round(rt: &impl Abort, heap: Global, domains: &[u8]) -> Result<(), Fail> {
     let bytes = written(heap, domains)?;
     let mut back = vec![in heap; 9u8; domains.len()]?;
-    let Ok(numbers) = read_plan(bytes.as_slice(), back.as_mut_slice()) else {
-        return Err(Fail::new("the plan reads"));
-    };
+    let numbers = read(&bytes, &mut back)?;
     assert_eq!(rt; (numbers.period, numbers.offset), (7, 5));
     assert_eq!(rt; numbers.registers as usize, domains.len());
-    assert_eq!(rt; back.as_slice() == domains, true);
+    assert!(rt; back.as_slice() == domains);
     Ok(())
 }
 
@@ -159,15 +155,13 @@ fn plans_of_all_sizes_go_round(rt: HostRuntime) -> Result<(), Fail> {
     let heap = rt.alloc();
     for registers in [1usize, 63, 64, 65, 4096] {
         let mut domains = vec![in heap; 0u8; registers]?;
-        goes_round(&rt, heap, domains.as_slice())?;
-        for register in (0..registers).step_by(3) {
-            if let Some(domain) = domains.get_mut(register) {
-                *domain = 1;
-            }
+        goes_round(&rt, heap, &domains)?;
+        for domain in domains.iter_mut().step_by(3) {
+            *domain = 1;
         }
-        goes_round(&rt, heap, domains.as_slice())?;
+        goes_round(&rt, heap, &domains)?;
         let late = vec![in heap; 1u8; registers]?;
-        goes_round(&rt, heap, late.as_slice())?;
+        goes_round(&rt, heap, &late)?;
     }
     Ok(())
 }

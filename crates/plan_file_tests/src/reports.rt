@@ -1,6 +1,6 @@
 // Reports of drafts, byte for byte.
+use crate::samples::{circuit_file, draft};
 use delay_file::fault::Fault;
-use delay_file::whole_file::encode_file;
 use plan_file::draft::Draft;
 use plan_report::report::report;
 use std::alloc::Global;
@@ -9,18 +9,7 @@ use std::test::Fail;
 use timing::refusal::Refusal;
 
 fn file(heap: Global, names: &[&[u8]]) -> Result<Vec<u8>, Fail> {
-    match encode_file(heap, names, &[]) {
-        Ok(bytes) => Ok(bytes),
-        Err(_) => Err(Fail::new("the circuit is written")),
-    }
-}
-
-fn draft(period: u32, offset: u32) -> Draft<'static> {
-    Draft {
-        period,
-        offset,
-        domains: &[0, 1],
-    }
+    circuit_file(heap, names, &[])
 }
 
 // What a report of a file with two registers is refused with, given so much memory; it must leave that as it was.
@@ -31,16 +20,14 @@ fn refusal(
     room: usize,
 ) -> Result<Option<Fault>, Fail> {
     let mut memory = [9u8; 200];
-    let Some(out) = memory.get_mut(0..room) else {
-        return Err(Fail::new("there is so much memory"));
-    };
-    match report(file, &draft, out) {
-        Ok(_) => Ok(None),
-        Err(fault) => {
-            assert_eq!(rt; memory == [9; 200], true);
-            Ok(Some(fault))
-        }
+    let out = memory
+        .get_mut(..room)
+        .ok_or_else(|| Fail::new("there is so much memory"))?;
+    let fault = report(file, &draft, out).err();
+    if fault.is_some() {
+        assert!(rt; memory == [9; 200]);
     }
+    Ok(fault)
 }
 
 #[test]
@@ -48,11 +35,9 @@ fn two_registers(rt: HostRuntime) -> Result<(), Fail> {
     let bytes = file(rt.alloc(), &[b"ra", b"rb"])?;
     let mut out = [9u8; 130];
     let text = b"period 4 offset 2 late 1\nra early\nrb late\n";
-    assert_eq!(rt; report(bytes.as_slice(), &draft(4, 2), &mut out), Ok(42));
-    assert_eq!(rt; out.starts_with(text), true);
-    for byte in out.iter().skip(42) {
-        assert_eq!(rt; *byte, 9);
-    }
+    assert_eq!(rt; report(&bytes, &draft(4, 2), &mut out), Ok(42));
+    assert!(rt; out.starts_with(text));
+    assert!(rt; out.iter().skip(42).all(|byte| *byte == 9));
     Ok(())
 }
 
@@ -63,10 +48,10 @@ fn longest_numbers_and_names(rt: HostRuntime) -> Result<(), Fail> {
     let mut out = [0u8; 128];
     let text = b"period 4096000000 offset 1000000 late 1\nabcdefghijklmnopqrstuvwx early\n! late\n";
     assert_eq!(rt;
-        report(bytes.as_slice(), &draft(4_096_000_000, 1_000_000), &mut out),
+        report(&bytes, &draft(4_096_000_000, 1_000_000), &mut out),
         Ok(text.len())
     );
-    assert_eq!(rt; out.starts_with(text), true);
+    assert!(rt; out.starts_with(text));
     Ok(())
 }
 
@@ -78,23 +63,22 @@ fn refusals_come_in_their_order(rt: HostRuntime) -> Result<(), Fail> {
         refusal(&rt, &[0; 5], draft(0, 0), 0)?,
         Some(Fault::of_file(Refusal::NotWholeRecords))
     );
-    let all = bytes.as_slice();
     assert_eq!(rt;
-        refusal(&rt, all, draft(0, 1_000_001), 0)?,
+        refusal(&rt, &bytes, draft(0, 1_000_001), 0)?,
         Some(Fault::of_file(Refusal::PeriodOutOfLimits))
     );
     assert_eq!(rt;
-        refusal(&rt, all, draft(4, 1_000_001), 0)?,
+        refusal(&rt, &bytes, draft(4, 1_000_001), 0)?,
         Some(Fault::of_file(Refusal::OffsetOutOfLimits))
     );
     let short = Some(Fault::of_file(Refusal::MemoryTooShort));
-    assert_eq!(rt; refusal(&rt, all, draft(4, 2), 127)?, short);
-    assert_eq!(rt; refusal(&rt, all, draft(4, 2), 128)?, None);
+    assert_eq!(rt; refusal(&rt, &bytes, draft(4, 2), 127)?, short);
+    assert_eq!(rt; refusal(&rt, &bytes, draft(4, 2), 128)?, None);
     let one = Draft {
         period: 4,
         offset: 2,
         domains: &[0],
     };
-    assert_eq!(rt; refusal(&rt, all, one, 128)?, short);
+    assert_eq!(rt; refusal(&rt, &bytes, one, 128)?, short);
     Ok(())
 }

@@ -1,52 +1,42 @@
 // Checked plans written as files, over circuits without pairs: every choice of domains is legal there.
-use delay_file::view::FileView;
-use delay_file::whole_file::encode_file;
-use plan_file::checked::{CheckedPlan, check};
+use crate::samples::{circuit_file, draft, opened};
+use delay_file::fields::word_at;
+use delay_file::layout::record_bytes;
+use plan_file::checked::{CheckedPlan, RefusedDraft, check};
 use plan_file::draft::Draft;
 use std::alloc::Global;
 use std::test::Fail;
+use timing::domain::FREE;
 use timing::refusal::Refusal;
 
 // A delay file of so many registers and no pairs.
 fn registers_file(heap: Global, count: usize) -> Result<Vec<u8>, Fail> {
-    let mut names: Vec<&[u8]> = Vec::new(heap);
-    for _ in 0..count {
-        names.push(b"r")?;
-    }
-    match encode_file(heap, names.as_slice(), &[]) {
-        Ok(bytes) => Ok(bytes),
-        Err(_) => Err(Fail::new("the circuit is written")),
-    }
+    let name: &[u8] = b"r";
+    circuit_file(heap, &vec![in heap; name; count]?, &[])
 }
 
 // What a plan of period 7 and offset 5 with these domains is written as, over a circuit without pairs.
 pub(crate) fn written(heap: Global, domains: &[u8]) -> Result<Vec<u8>, Fail> {
     let file = registers_file(heap, domains.len())?;
-    let Ok(view) = FileView::open(file.as_slice()) else {
-        return Err(Fail::new("the circuit opens"));
+    let view = opened(&file)?;
+    let pins = vec![in heap; FREE; domains.len()]?;
+    let draft = Draft {
+        period: 7,
+        offset: 5,
+        domains,
     };
-    let pins = vec![in heap; 2; domains.len()]?;
-    match check(
-        &view,
-        pins.as_slice(),
-        5,
-        Draft {
-            period: 7,
-            offset: 5,
-            domains,
-        },
-    ) {
-        Ok(plan) => put(heap, &plan),
-        Err(_) => Err(Fail::new("the draft is legal")),
-    }
+    put(heap, &legal(check(&view, &pins, 5, draft))?)
+}
+
+fn legal<'d>(answer: Result<CheckedPlan<'d>, RefusedDraft<'d>>) -> Result<CheckedPlan<'d>, Fail> {
+    answer.map_err(|_| Fail::new("the draft is legal"))
 }
 
 fn put(heap: Global, plan: &CheckedPlan<'_>) -> Result<Vec<u8>, Fail> {
     let mut out = vec![in heap; 99; plan.file_length()]?;
-    match plan.write(out.as_mut_slice()) {
-        Ok(_) => Ok(out),
-        Err(_) => Err(Fail::new("the memory is long enough")),
-    }
+    plan.write(&mut out)
+        .map_err(|_| Fail::new("the memory is long enough"))?;
+    Ok(out)
 }
 
 #[test]
@@ -57,19 +47,15 @@ fn three_registers(rt: HostRuntime) -> Result<(), Fail> {
         0, 0, 17, 2, 0, 0, 0, 0, 0, 0, 0, 0, 0, 0, 0, 0, 0, 5, 0, 0, 0, 0, 0, 0, 0, 0, 0, 0, 0, 0,
         0, 0, 0, 0,
     ];
-    assert_eq!(rt; out.as_slice() == expected.as_slice(), true);
+    assert!(rt; out.as_slice() == expected.as_slice());
     Ok(())
 }
 
 // The word of a record, and its count of ones.
 fn word(out: &[u8], record: usize) -> (u64, u8) {
-    let at = record.saturating_mul(32);
-    match out.get(at..at.saturating_add(16)) {
-        Some([_, ones, _, _, _, _, _, _, a, b, c, d, e, f, g, h]) => {
-            (u64::from_be_bytes([*a, *b, *c, *d, *e, *f, *g, *h]), *ones)
-        }
-        _ => (0, 255),
-    }
+    let bytes = record_bytes(out, record);
+    let ones = bytes.get(1).copied().unwrap_or(255);
+    (word_at(bytes, 8).unwrap_or(0), ones)
 }
 
 #[test]
@@ -82,15 +68,9 @@ fn words_at_the_edges(rt: HostRuntime) -> Result<(), Fail> {
     ];
     for (registers, all_late, ones) in cases {
         let late = vec![in heap; 1u8; registers]?;
-        assert_eq!(rt;
-            word(written(heap, late.as_slice())?.as_slice(), 1),
-            (all_late, ones)
-        );
+        assert_eq!(rt; word(&written(heap, &late)?, 1), (all_late, ones));
         let early = vec![in heap; 0u8; registers]?;
-        assert_eq!(rt;
-            word(written(heap, early.as_slice())?.as_slice(), 1),
-            (0, 0)
-        );
+        assert_eq!(rt; word(&written(heap, &early)?, 1), (0, 0));
     }
     Ok(())
 }
@@ -99,38 +79,25 @@ fn words_at_the_edges(rt: HostRuntime) -> Result<(), Fail> {
 fn more_than_one_word(rt: HostRuntime) -> Result<(), Fail> {
     let heap = rt.alloc();
     let late = vec![in heap; 1u8; 65]?;
-    let out = written(heap, late.as_slice())?;
+    let out = written(heap, &late)?;
     assert_eq!(rt; out.len(), 96);
-    assert_eq!(rt; word(out.as_slice(), 1), (18_446_744_073_709_551_615, 64));
-    assert_eq!(rt; word(out.as_slice(), 2), (1, 1));
+    assert_eq!(rt; word(&out, 1), (18_446_744_073_709_551_615, 64));
+    assert_eq!(rt; word(&out, 2), (1, 1));
     let most = vec![in heap; 1u8; 4096]?;
-    let out = written(heap, most.as_slice())?;
+    let out = written(heap, &most)?;
     assert_eq!(rt; out.len(), 65 * 32);
-    assert_eq!(rt; word(out.as_slice(), 64), (18_446_744_073_709_551_615, 64));
+    assert_eq!(rt; word(&out, 64), (18_446_744_073_709_551_615, 64));
     Ok(())
 }
 
 #[test]
 fn memory_that_is_too_short_stays(rt: HostRuntime) -> Result<(), Fail> {
     let file = registers_file(rt.alloc(), 2)?;
-    let Ok(view) = FileView::open(file.as_slice()) else {
-        return Err(Fail::new("the circuit opens"));
-    };
-    let Ok(plan) = check(
-        &view,
-        &[2, 2],
-        5,
-        Draft {
-            period: 7,
-            offset: 5,
-            domains: &[0, 1],
-        },
-    ) else {
-        return Err(Fail::new("the draft is legal"));
-    };
+    let view = opened(&file)?;
+    let plan = legal(check(&view, &[FREE, FREE], 5, draft(7, 5)))?;
     let mut short = [9u8; 63];
     assert_eq!(rt; plan.write(&mut short), Err(Refusal::MemoryTooShort));
-    assert_eq!(rt; short == [9; 63], true);
+    assert!(rt; short == [9; 63]);
     let mut long = [9u8; 66];
     assert_eq!(rt; plan.write(&mut long), Ok(64));
     assert_eq!(rt; long[64], 9);

@@ -1,6 +1,6 @@
 -- Pieces of text put into memory one behind the other.
-use Rattle.std.proofs.Common.{◌≡◌, ℕ, ◌+◌, ◌≤◌, List, [], ◌++◌, length, take, drop, sym, refl, ap, ◌∙◌, ap₂, append_assoc, add-zero, zero-add, arith, length-append}
-use Rattle.std.proofs.lemmas.List.{take_at, drop_at, drop-drop, length-take-le, take-append-drop}
+use Rattle.std.proofs.Common.{◌≡◌, ℕ, ◌+◌, ◌≤◌, List, ◌++◌, length, take, drop, sym, ap, ◌∙◌, ap₂, append_assoc, zero-add, arith, length-append}
+use Rattle.std.proofs.lemmas.List.{take_at, drop_at, drop-drop, length-take-le}
 use Rattle.plan_report.specs.Text.{HasRoom, put, Pushes}
 use Rattle.plan_report.specs.declared.text.Text.{Text}
 
@@ -37,15 +37,6 @@ pushes_then a b was mid now room p q = record {
   ends = let l = length-append a b in let x = p.ends in let y = q.ends in omega arith;
   same_length = q.same_length ∙ p.same_length;
   same_memory = q.same_memory ∙ p.same_memory;
-}
-
--- no bytes leave the text as it is
-pub pushes_none : (was : Text) → Pushes [] was was
-pushes_none was = record {
-  memory = sym (ap (λ n. take was.end was.memory.now ++ drop n was.memory.now) (add-zero was.end) ∙ take-append-drop was.end was.memory.now);
-  ends = sym (add-zero was.end);
-  same_length = refl;
-  same_memory = refl;
 }
 
 -- a text that begins where its memory does: it stands at the front, and the rest stays
