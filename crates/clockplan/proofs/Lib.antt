@@ -1,4 +1,3 @@
 pub mod Counted
-pub mod Empty
 pub mod Faulty
 pub mod Names

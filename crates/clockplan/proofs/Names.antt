@@ -1,20 +1,24 @@
 -- Registers by their names.
-use Rattle.std.proofs.Common.{◌≡◌, ℕ, ◌+◌, ◌<◌, ◌≤◌, Bool, false, List, Some, Decides, unwrap_or, sym, ap, ◌∙◌, arith, below_more}
+use Rattle.std.proofs.Common.{◌≡◌, ℕ, ◌+◌, ◌<◌, ◌≤◌, Bool, List, Some, None, Option, Decides, unwrap_or, sym, ap, ◌∙◌, arith, Bor}
+use Rattle.std.specs.Prelude.{◌↔◌, IsTrue, MatchOption}
+use Rattle.std.specs.Option.{option_eq}
+use Rattle.delay_file.specs.Records.{borrowed}
 use Rattle.delay_file.specs.declared.view.FileView.{FileView}
 use Rattle.delay_file.specs.Files.{register_name, view_registers}
 use Rattle.clockplan.specs.Pins.{OnlyNamed, Unnamed}
 
--- a register that has some name has this one exactly where the two are equal
-pub named_so : (v : FileView) (k : ℕ) (found text name : List ℕ) (r : Bool) → Some found ≡ register_name v k → Decides r (found ≡ text) → text ≡ name → Decides r (register_name v k ≡ Some name)
-named_so v k found text name r e d p =
-    (λ t. sym e ∙ ap Some (d.0 t ∙ p), λ q. d.1 (ap (λ o. unwrap_or o found) (e ∙ q) ∙ sym p))
+-- a register has a name exactly where what was read of it is equal to the name
+pub named_so : (v : FileView) (k : ℕ) (read : Option (Bor (List ℕ))) (text : Bor (List ℕ)) (name : List ℕ) (r : Bool) (same : List ℕ → List ℕ → Bool) → ((x y : List ℕ) → Decides (same x y) (x ≡ y)) → r ≡ option_eq (λ x y. same x.now y.now) read (Some text) → borrowed read ≡ register_name v k → text.now ≡ name → IsTrue r ↔ (register_name v k ≡ Some name)
+named_so v k None text name r same dec e n p = (λ t. absurd (let f = sym e ∙ t in grind arith), λ q. absurd (let f = n ∙ q in grind arith))
+named_so v k (Some found) text name r same dec e n p = (
+  λ t. sym n ∙ ap Some ((dec found.now text.now).0 (sym e ∙ t) ∙ p),
+  λ q. e ∙ (dec found.now text.now).1 (ap (λ o. unwrap_or o found.now) (n ∙ q) ∙ sym p),
+)
 
--- one register further that has another name
-pub one_further : (v : FileView) (name : List ℕ) (from i : ℕ) (r : Bool) → Unnamed v name from i → Decides r (register_name v i ≡ Some name) → r ≡ false → Unnamed v name from (i + 1)
-one_further v name from i r u d f =
-    λ j a b q.
-    below_more (λ j. from ≤ j → register_name v j ≡ Some name → ⊥) i
-    (λ k h a q. u k a h q) (λ a q. let t = d.1 q in grind arith) j b a q
+-- the register that a search from a number on finds
+pub first_of_name : (v : FileView) (name : List ℕ) (from s e : ℕ) (r : Option ℕ) → s ≡ from → e ≡ view_registers v → MatchOption r ((k : ℕ) → s ≤ k → k < e → register_name v k ≡ Some name → ⊥) (λ i. (s ≤ i) × (i < e) × (register_name v i ≡ Some name) × ((k : ℕ) → s ≤ k → k < i → register_name v k ≡ Some name → ⊥)) → MatchOption r (Unnamed v name from (view_registers v)) (λ k. (k < view_registers v) × (register_name v k ≡ Some name) × Unnamed v name from k)
+first_of_name v name from s e None p q h = λ j a b. h j (omega arith) (omega arith)
+first_of_name v name from s e (Some i) p q h = (omega (arith, h.1), h.2, λ j a b. h.3 j (omega arith) b)
 
 -- none before a register and none behind it has its name
 pub only_one : (v : FileView) (name : List ℕ) (k : ℕ) → register_name v k ≡ Some name → Unnamed v name 0 k → Unnamed v name (k + 1) (view_registers v) → OnlyNamed v name k

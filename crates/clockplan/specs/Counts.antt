@@ -1,11 +1,7 @@
 -- How many entries of a source are faulty or broken, and how many registers are late.
-use Rattle.std.specs.Prelude.{ℕ, Bool, true, false, List, ℤ, pos, count_by, int_lt, nat_eq}
+use Rattle.std.specs.Prelude.{ℕ, Bool, false, List, ℤ, pos, count_by, int_lt, nat_eq}
 use Rattle.timing.specs.Delays.{slack}
-use Rattle.timing.specs.Meaning.{Entry, pair, faulty}
-
-abbrev pub is_faulty : Entry → Bool
-is_faulty (pair p) = false
-is_faulty (faulty number) = true
+use Rattle.timing.specs.Meaning.{Entry, pair, faulty, is_faulty}
 
 abbrev pub faulty_count : List Entry → ℕ
 faulty_count es = count_by is_faulty es

@@ -1,6 +1,5 @@
 -- Pins as people write them, and the bytes that they are.
 use Rattle.std.specs.Prelude.{◌≡◌, ℕ, ◌<◌, ◌≤◌, List, Some, codes, ◌≢◌}
-use Rattle.timing.specs.Plans.{PinKept}
 use Rattle.timing.specs.declared.domain.Domain.{Domain}
 use Rattle.timing.specs.declared.domain.Domain.TheVariants.{Early, Late}
 use Rattle.delay_file.specs.declared.view.FileView.{FileView}
@@ -18,11 +17,3 @@ Unnamed v name from end = (j : ℕ) → from ≤ j → j < end → register_name
 -- a register that has this name, and no other has it
 abbrev pub OnlyNamed : FileView → List ℕ → ℕ → Type 0
 OnlyNamed v name k = (register_name v k ≡ Some name) × ((j : ℕ) → j < view_registers v → register_name v j ≡ Some name → j ≡ k)
-
-abbrev pub pin_of : Domain → ℕ
-pin_of Early = 0
-pin_of Late = 1
-
--- the domain that a pin byte asks for keeps it, and no other does
-abbrev pub AsksFor : ℕ → Domain → Type 0
-AsksFor byte d = (e : Domain) → (PinKept byte e → e ≡ d) × (e ≡ d → PinKept byte e)

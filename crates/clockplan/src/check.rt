@@ -1,6 +1,7 @@
 ghost use Rattle.clockplan.specs.Verdicts.{grants, is_granted};
 ghost use Rattle.delay_file.specs.Files.{view_meaning};
-ghost use Rattle.plan_file.specs.Draft.{IsLegal, IsReady, draft_answer};
+ghost use Rattle.plan_file.specs.Checks.{IsLegal, IsReady};
+ghost use Rattle.plan_file.specs.Draft.{draft_answer};
 ghost use Rattle.std.specs.Prelude.{◌≡◌, ◌↔◌, IfOk, IsTrue};
 
 use crate::commands::{Outcome, Paths};

@@ -7,6 +7,7 @@ ghost use Rattle.timing.specs.declared.domain.Domain.{Domain};
 
 use crate::problem::{Problem, Wanted};
 use delay_file::view::FileView;
+use std::str::FromStr;
 use timing::domain::Domain;
 use timing::limits::MAX_OFFSET;
 
@@ -68,7 +69,7 @@ pub(crate) fn read_count<'w>(words: &'w [&'w str]) -> Result<usize, Problem<'w>>
     let mut count = USUAL_COUNT;
     for option in words.chunks(2) {
         count = match *option {
-            ["--count", ref value @ ..] => value_of(COUNT, value, |text| text.parse().ok())?,
+            ["--count", ref value @ ..] => number_in(COUNT, value)?,
             _ => return Err(unknown(option, "--count N")),
         };
     }
@@ -76,12 +77,10 @@ pub(crate) fn read_count<'w>(words: &'w [&'w str]) -> Result<usize, Problem<'w>>
 }
 
 fn read_check_option<'w>(option: &'w [&'w str]) -> Result<CheckOption<'w>, Problem<'w>> {
-    // Any ceiling that fits 32 bits is read; whether it keeps its limit is for the check to say.
     match *option {
-        ["--ceiling", ref value @ ..] => {
-            value_of(CEILING, value, |text| text.parse().ok()).map(CheckOption::Ceiling)
-        }
-        ["--pin", ref value @ ..] => value_of(PIN, value, asked_pin).map(CheckOption::Pinned),
+        // Any ceiling that fits 32 bits is read; whether it keeps its limit is for the check to say.
+        ["--ceiling", ref value @ ..] => Ok(CheckOption::Ceiling(number_in(CEILING, value)?)),
+        ["--pin", ref value @ ..] => Ok(CheckOption::Pinned(pin_in(value)?)),
         _ => Err(unknown(
             option,
             "--ceiling PS, and --pin NAME=early or --pin NAME=late",
@@ -96,14 +95,24 @@ fn unknown<'w>(option: &[&'w str], known: &'static str) -> Problem<'w> {
     }
 }
 
-// What is read of the value of an option, if one follows it.
-fn value_of<'w, T, F>(wanted: Wanted, words: &[&'w str], read: F) -> Result<T, Problem<'w>>
+// The value of an option, if one follows it.
+fn value_in<'w>(wanted: Wanted, words: &[&'w str]) -> Result<&'w str, Problem<'w>> {
+    words.first().copied().ok_or(Problem::NoValue(wanted))
+}
+
+fn number_in<'w, N: FromStr>(wanted: Wanted, words: &[&'w str]) -> Result<N, Problem<'w>>
 where
-    F: FnOnce(&'w str) -> Option<T>,
-    requires { F.IsAlwaysCallable read }
+    N::Err: Drop,
 {
-    let value = words.first().copied().ok_or(Problem::NoValue(wanted))?;
-    read(value).ok_or(Problem::WrongValue { wanted, value })
+    let value = value_in(wanted, words)?;
+    value
+        .parse()
+        .map_err(|_| Problem::WrongValue { wanted, value })
+}
+
+fn pin_in<'w>(words: &[&'w str]) -> Result<Pin<'w>, Problem<'w>> {
+    let value = value_in(PIN, words)?;
+    asked_pin(value).ok_or(Problem::WrongValue { wanted: PIN, value })
 }
 
 // The pin that a text asks for. Its name may hold `=` itself, so only the end of the text is taken off.
@@ -155,7 +164,8 @@ fn is_named(view: &FileView<'_>, number: u32, name: &str) -> bool
 fn set_pin(pins: &mut [u8], register: u32, domain: Domain)
     ensures { pins.new ≡ slice_set pins.old register (domain_byte domain) }
 {
-    if let Some(pin) = pins.get_mut(register as usize) {
-        *pin = domain.byte();
+    let at = register as usize;
+    if at < pins.len() {
+        pins[at] = domain.byte();
     }
 }

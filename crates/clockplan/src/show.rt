@@ -1,8 +1,8 @@
 ghost use Rattle.std.specs.Prelude.{◌≡◌, ◌+◌, ◌^◌, ◌<◌, IfOk};
-ghost use Rattle.clockplan.specs.Counts.{faulty_count, is_faulty};
+ghost use Rattle.clockplan.specs.Counts.{faulty_count};
+ghost use Rattle.timing.specs.Meaning.{entry_at, is_faulty};
 ghost use Rattle.clockplan.specs.Verdicts.{faultless, is_granted};
 ghost use Rattle.delay_file.specs.Files.{opening, view_meaning, view_registers};
-ghost use Rattle.timing.specs.Meaning.{entry_at};
 
 use crate::commands::Outcome;
 use crate::files::read_bytes;

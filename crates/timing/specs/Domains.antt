@@ -1,5 +1,6 @@
 -- The two domains in memory and in text.
-use Rattle.std.specs.Prelude.{◌≡◌, ℕ, List, codes, Result, MatchResult, ◌≢◌}
+use Rattle.std.specs.Prelude.{◌≡◌, ℕ, ◌↔◌, List, codes, Result, MatchResult, ◌≢◌}
+use Rattle.timing.specs.Plans.{PinKept}
 use Rattle.timing.specs.declared.domain.Domain.{Domain}
 use Rattle.timing.specs.declared.domain.Domain.TheVariants.{Early, Late}
 use Rattle.timing.specs.declared.domain.NoSuchDomain.{NoSuchDomain}
@@ -8,6 +9,10 @@ use Rattle.timing.specs.declared.domain.NoSuchDomain.{NoSuchDomain}
 abbrev pub domain_byte : Domain → ℕ
 domain_byte Early = 0
 domain_byte Late = 1
+
+-- a pin byte asks for a domain: that domain keeps it, and no other does
+abbrev pub AsksFor : ℕ → Domain → Type 0
+AsksFor byte d = (e : Domain) → PinKept byte e ↔ (e ≡ d)
 
 -- what a domain is called
 abbrev pub domain_name : Domain → List ℕ

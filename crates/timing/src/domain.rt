@@ -1,4 +1,4 @@
-ghost use Rattle.timing.specs.Domains.{NamesDomain, domain_byte, domain_name};
+ghost use Rattle.timing.specs.Domains.{AsksFor, NamesDomain, domain_byte, domain_name};
 ghost use Rattle.timing.specs.Plans.{clock, domain_of};
 ghost use Rattle.std.specs.Prelude.{◌≡◌};
 
@@ -29,7 +29,8 @@ impl Domain {
 
     // The byte that stands for this domain, in domain memory and in pin memory.
     pub fn byte(self) -> u8
-        ensures { result ≡ domain_byte self }
+        ensures value { result ≡ domain_byte self }
+        ensures asks { AsksFor result self }
     {
         self as u8
     }

@@ -1,25 +1,20 @@
-use Rattle.std.proofs.Common.{ap, ◌∙◌, arith}
-use Rattle.std.proofs.lemmas.List.{take_all}
-use Rattle.timing.specs.Meaning.{faulty}
+use Rattle.std.proofs.Common.{◌≡◌, ℕ, ◌+◌, Bool, refl, ap, ◌∙◌, arith, rules, tests}
+use Rattle.std.proofs.lemmas.Iterator.{YieldsList-from_range}
+use Rattle.std.proofs.lemmas.Iterator.Consumers.{YieldsList-from_filter, count_from_yields_List}
+use Rattle.std.proofs.lemmas.List.Sums.{length-filter}
+use Rattle.std.specs.List.{count_by, range_with_len}
+use Rattle.timing.specs.Meaning.{faulty, entry_at}
 use Rattle.delay_file.specs.Files.{view_meaning}
-use Rattle.plan_file.specs.Drafts.{time_of}
-use Rattle.clockplan.specs.Counts.{is_broken, broken_count}
-use Rattle.clockplan.proofs.Counted.{one_more, none_more}
+use Rattle.plan_file.specs.Draft.{draft_time}
+use Rattle.clockplan.specs.Counts.{is_broken}
+use Rattle.clockplan.proofs.Counted.{counted_places}
 use Rattle.clockplan.proofs.slack.broken_count.Goals as goal
-use Rattle.clockplan.proofs.slack.broken_count.Goals.{then-is_broken, else-is_broken}
-
-pub loop-place-preserved : goal.loop-place-preserved
-loop-place-preserved c =
-    let es = (view_meaning c.args.view.now).entries in
-    let i = c.loop-place.place in
-    let test = is_broken c.args.draft.now.period (time_of c.args.draft.now.offset c.args.draft.now.domains.now) in
-    elim c.if-is_broken.branch [
-      | then-is_broken w ↦ (w.broken-is ∙ one_more test es (faulty 5) i c.loop-place.broken c.is_broken.result (omega arith) c.loop-place.invariant.0 c.is_broken.ensures w.if-is_broken.true, omega (arith, w.broken-is))
-      | else-is_broken w ↦ (w.broken-is ∙ none_more test es (faulty 5) i c.loop-place.broken c.is_broken.result (omega arith) c.loop-place.invariant.0 c.is_broken.ensures w.if-is_broken.false, omega (arith, w.broken-is))
-    ]
 
 pub returns : goal.returns
 returns c =
-    let es = (view_meaning c.args.view.now).entries in
-    let time = time_of c.args.draft.now.offset c.args.draft.now.domains.now in
-    c.loop-place.invariant.0 ∙ ap (broken_count c.args.draft.now.period time) (take_all c.loop-place.place es (omega arith))
+    let p = c.args.planned.now in
+    let m = view_meaning p.view in
+    let test = is_broken p.draft.period (draft_time p.draft) in
+    let at : ℕ → Bool = λ k. test (entry_at m k) in
+    let h = count_from_yields_List c.filter.result c.count.result c.count.ensures.ran (YieldsList-from_filter _ at (YieldsList-from_range 0 c.entry_count.result c.entry_count.result c.filter.ensures.source (omega arith)) c.filter.ensures.closure (λ x r q k. search (rules, tests))) in
+    h ∙ length-filter at _ ∙ ap (λ n. count_by at (range_with_len 0 n)) c.entry_count.ensures ∙ counted_places test at m.entries 0 (faulty 5) (λ i l. let e : 0 + i ≡ i = omega arith in ap at e)
