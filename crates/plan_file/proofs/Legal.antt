@@ -1,16 +1,14 @@
 -- Check passes a draft exactly when the plan is legal.
-use Rattle.std.proofs.Common.{◌≡◌, ℕ, zero, suc, ◌+◌, ◌-◌, ◌<◌, ◌≤◌, Bool, true, false, cond, ◌&&◌, eqb, leb, List, [], ◌∷◌, length, get_or, ℤ, pos, negsuc, ◌≤ℤ◌, None, sym, refl, ◌∙◌, subst, arith}
+use Rattle.std.proofs.Common.{◌≡◌, ℕ, zero, suc, ◌+◌, ◌-◌, ◌<◌, Bool, true, false, cond, eqb, List, [], ◌∷◌, length, get_or, ℤ, pos, negsuc, ◌≤ℤ◌, None, sym, refl, ◌∙◌, subst, arith}
 use Rattle.std.specs.List.{range_with_len, AllByRecursion}
 use Rattle.std.proofs.lemmas.List.FromFn.{length-range_with_len, get_or-range_with_len}
 use Rattle.std.proofs.ByRecursion.{All-get_or, All-from_get_or}
 use Rattle.std.proofs.lemmas.Int.{ints}
-use Rattle.std.proofs.lemmas.Bool.{and_parts, cond_both, eqb-true, leb-true, le-leb}
+use Rattle.std.proofs.lemmas.Bool.{cond_both, eqb-true, le-leb}
 use Rattle.std.proofs.lemmas.Bool.Decides.{nat_tests}
-use Rattle.timing.proofs.Rows.{passed, none_faulty as no_fault}
-use Rattle.timing.specs.Bounds.{Period, Offset}
 use Rattle.timing.specs.Delays.{Setup, Hold, setup_slack, hold_slack}
 use Rattle.timing.specs.Meaning.{Entry, pair, faulty, Meaning}
-use Rattle.timing.specs.Outcomes.{granted, refused, period_within, offset_within, few_entries, first_faulty}
+use Rattle.timing.specs.Outcomes.{granted, refused, first_faulty}
 use Rattle.timing.specs.Plans.{Met, PinKept, Legal}
 use Rattle.timing.specs.Slacks.{excess}
 use Rattle.timing.specs.declared.domain.Domain.{Domain}
@@ -18,7 +16,7 @@ use Rattle.timing.specs.declared.domain.Domain.TheVariants.{Early, Late}
 use Rattle.timing.specs.declared.pair.Pair.{Pair}
 use Rattle.timing.specs.declared.refusal.Part.{Part}
 use Rattle.timing.specs.declared.refusal.Part.TheVariants as part
-use Rattle.plan_file.specs.Drafts.{Verdict, kept, broken, by_excess, entries_from, pins_from, pin_met, verdict, time_of, check_answer, told_verdict, long_enough}
+use Rattle.plan_file.specs.Drafts.{Verdict, kept, broken, by_excess, entries_from, pins_from, pin_met, verdict, time_of, check_answer, told_verdict}
 use Rattle.timing.specs.Plans.{domains_of}
 use Rattle.plan_file.specs.Laws.{IsPair, Ready}
 
@@ -151,18 +149,6 @@ told_kept (broken p k e) h = absurd (let z : ◌≡◌ {A = ℕ} 0 1 = cc in ome
 told_broken : (v : Verdict) (n : ℕ) (vs : List ℕ) → refused n vs ≡ told_verdict v → v ≡ kept → ⊥
 told_broken kept n vs h e = let z : ◌≡◌ {A = ℕ} 0 1 = cc in omega arith
 told_broken (broken p k x) n vs h e = let z : ◌≡◌ {A = ℕ} 0 1 = cc in omega arith
-
--- a draft that check passes keeps the limits of numbers, and its memory has a byte for each register
-pub granted_limits : (m : Meaning) (pins : List ℕ) (ceiling T s : ℕ) (ds : List ℕ) → granted tt ≡ check_answer m pins ceiling T s ds → Period T × Offset s × (m.registers ≤ length ds)
-granted_limits m pins ceiling T s ds e =
-    let a = passed (period_within T) 8 tt _ e in
-    let p = and_parts (leb 1 T) (leb T 4096000000) a.0 in
-    let b = passed (offset_within ceiling && offset_within s) 7 tt _ a.1 in
-    let o = and_parts (offset_within ceiling) (offset_within s) b.0 in
-    let c = passed (few_entries m) 6 tt _ b.1 in
-    let d = no_fault (first_faulty 0 m.entries) tt _ c.1 in
-    let l = and_parts (leb m.registers (length pins)) (leb m.registers (length ds)) (passed (long_enough m pins ds) 9 tt _ d).0 in
-    ((leb-true 1 T p.0, leb-true T 4096000000 p.1), leb-true s 1000000 o.1, leb-true m.registers (length ds) l.1)
 
 -- check passes a draft exactly when the plan is legal
 module _ (m : Meaning) (pins : List ℕ) (ceiling T s : ℕ) (ds : List ℕ) (ready : Ready m pins ceiling T s ds) where

@@ -1,4 +1,3 @@
-pub mod Excess
 pub mod First
 pub mod Layouts
 pub mod Legal

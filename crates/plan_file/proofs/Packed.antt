@@ -36,9 +36,6 @@ skip_bit f k w t e =
     let a : packed f k ≡ packed f k + bit (f k) * 2 ^ k = rw t (omega arith) in
     e ∙ a ∙ ap (packed f) (sym (add-one k))
 
-pub packed_all : (f : ℕ → Bool) (k n : ℕ) → k ≡ n → packed f k ≡ packed f n
-packed_all f k n e = ap (packed f) e
-
 pub packed_none : (f : ℕ → Bool) → 0 ≡ packed f 0
 unfolding packed
 packed_none f = refl

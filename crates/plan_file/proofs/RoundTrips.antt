@@ -5,8 +5,8 @@ use native.Mathlib.Nat.{div-eq_of_lt}
 use Rattle.std.specs.List.{range_with_len}
 use Rattle.timing.specs.declared.refusal.Refusal.{Refusal}
 use Rattle.std.proofs.lemmas.List.FromFn.{get_or-range_with_len, length-map-range_with_len, get_or-map-range_with_len}
-use Rattle.std.proofs.lemmas.List.{take-append-drop, take_at, drop_at, drop-drop, get_or-take, get_or-drop, get_or_past, get_or_append_left}
-use Rattle.std.proofs.lemmas.Bool.{and_parts, and_from, and_left, eqb-true, eq-eqb, leb-true, le-leb, lt-leb, ltb-true, ltb-false, lt-ltb, le-ltb}
+use Rattle.std.proofs.lemmas.List.{take-append-drop, take_at, drop-drop, get_or-take, get_or-drop, get_or_past, get_or_append_left}
+use Rattle.std.proofs.lemmas.Bool.{and_parts, and_from, and_left, eqb-true, eq-eqb, leb-true, le-leb, ltb-true, ltb-false, lt-ltb, le-ltb}
 use Rattle.timing.specs.Bounds.{Period, Offset, RegisterCount}
 use Rattle.timing.specs.Outcomes.{period_within, offset_within}
 use Rattle.timing.specs.Plans.{domain_of, domains_of}
@@ -16,7 +16,7 @@ use Rattle.delay_file.specs.Files.{record_at, record_count}
 use Rattle.delay_file.proofs.Scans.{leading_below}
 use Rattle.delay_file.proofs.Spellings.{four}
 use Rattle.delay_file.proofs.Written.{count_joined, record_joined, run_is}
-use Rattle.plan_file.specs.PlanReading.{plan, refused, plan_reading, head_good, word_at, good_words, words_good, ones_in, domain_bit, laid_out, be64}
+use Rattle.plan_file.specs.PlanReading.{plan, plan_reading, head_good, word_at, good_words, words_good, ones_in, domain_bit, laid_out, be64}
 use Rattle.plan_file.specs.PlanRead.{ReadsAs, head_of}
 use Rattle.plan_file.specs.declared.head.Head.{Head}
 use Rattle.plan_file.specs.PlanRecords.{plan_bytes, plan_records, plan_length, head_record, word_record, domain_word, word_count, late_at, late_number, bit, count}
@@ -52,14 +52,11 @@ all_late bytes n ds h =
 record_written : (T s n : ℕ) (ds : List ℕ) (k : ℕ) → k < 1 + word_count n → record_at (plan_bytes T s n ds) k ≡ get_or (plan_records T s n ds) k []
 record_written T s n ds k h = let l = plan_count T s n ds in record_joined (plan_records T s n ds) k (plan_whole T s n ds) (omega arith)
 
--- a file whose records are right, read into enough memory or too little
+-- a file whose records are right, read into enough memory
 module _ (bytes : List ℕ) (T s n room : ℕ) (whole : eqb (length bytes % 32) 0 ≡ true) (head : head_good (record_at bytes 0) ≡ true) (period : be32 (record_at bytes 0) 4 ≡ T) (offset : be32 (record_at bytes 0) 8 ≡ s) (registers : be32 (record_at bytes 0) 12 ≡ n) (words : words_good bytes n ≡ true) (late : be32 (record_at bytes 0) 16 ≡ ones_in bytes (word_count n)) where
   pub good_reads : n ≤ room → plan_reading bytes room ≡ plan T s n (map (domain_bit bytes) (range_with_len 0 n))
   good_reads h =
       rw (whole, head, registers, words, eq-eqb _ _ late, le-leb n room h) (ap₂ (λ t o. plan t o n (map (domain_bit bytes) (range_with_len 0 n))) period offset)
-
-  pub good_short : room < n → plan_reading bytes room ≡ refused 9 None
-  good_short h = rw (whole, head, registers, words, eq-eqb _ _ late, lt-leb n room h)
 
 domain_bit_of : (b : Bool) → domain_of (bit b) ≡ cond b Late Early
 domain_bit_of true = refl
@@ -285,9 +282,6 @@ module _ (bytes : List ℕ) (h : Head) (f : Found bytes h) where
   pub room_for_words : word_count h.numbers.registers < record_count bytes
   room_for_words = words_there bytes f.typed h.numbers.registers limits.1 f.words
 
-  pub read_short : (room : ℕ) → room < h.numbers.registers → plan_reading bytes room ≡ refused 9 None
-  read_short room l = good_short bytes h.numbers.period h.numbers.offset h.numbers.registers room (eq-eqb _ _ f.whole) f.head (of_head (λ g. g.numbers.period)) (of_head (λ g. g.numbers.offset)) (of_head (λ g. g.numbers.registers)) f.words late_right l
-
   module _ (was out : List ℕ) (long : h.numbers.registers ≤ length was) (filled : out ≡ map (domain_bit bytes) (range_with_len 0 h.numbers.registers) ++ drop h.numbers.registers was) where
     front : length (map (domain_bit bytes) (range_with_len 0 h.numbers.registers)) ≡ h.numbers.registers
     front = length-map-range_with_len (domain_bit bytes) 0 h.numbers.registers
@@ -296,9 +290,6 @@ module _ (bytes : List ℕ) (h : Head) (f : Found bytes h) where
     read_granted =
         ap (plan h.numbers.period h.numbers.offset h.numbers.registers) (ap (take h.numbers.registers) filled ∙ take_at (map (domain_bit bytes) (range_with_len 0 h.numbers.registers)) (drop h.numbers.registers was) h.numbers.registers front)
         ∙ sym (good_reads bytes h.numbers.period h.numbers.offset h.numbers.registers (length was) (eq-eqb _ _ f.whole) f.head (of_head (λ g. g.numbers.period)) (of_head (λ g. g.numbers.offset)) (of_head (λ g. g.numbers.registers)) f.words late_right long)
-
-    pub read_rest : drop h.numbers.registers out ≡ drop h.numbers.registers was
-    read_rest = ap (drop h.numbers.registers) filled ∙ drop_at (map (domain_bit bytes) (range_with_len 0 h.numbers.registers)) (drop h.numbers.registers was) h.numbers.registers front
 
     read_byte : (r : ℕ) → r < h.numbers.registers → get_or out r 0 ≡ domain_bit bytes r
     read_byte r l =

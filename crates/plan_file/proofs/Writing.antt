@@ -33,9 +33,6 @@ module _ (T s n : ℕ) (ds : List ℕ) where
   pub headed : (was out b : List ℕ) → b ≡ head_record T s n (late_number n ds) → out ≡ take (0 * 32) was ++ (b ++ drop (0 * 32 + 32) was) → out ≡ head_record T s n (late_number n ds) ++ drop 32 was
   headed was out b e m = m ∙ ap (λ x. x ++ drop 32 was) e
 
-  pub started : (was out : List ℕ) → out ≡ head_record T s n (late_number n ds) ++ drop 32 was → out ≡ joined (take (1 + 0) (plan_records T s n ds)) ++ drop ((1 + 0) * 32) out
-  started was out e = e ∙ ap (λ x. head_record T s n (late_number n ds) ++ x) (sym (ap (drop 32) e))
-
   -- one word more behind the head
   pub one_word : (start out more b : List ℕ) (j : ℕ) → j < word_count n → out ≡ joined (take (1 + j) (plan_records T s n ds)) ++ drop ((1 + j) * 32) start → b ≡ word_record (64 * j) (domain_word n ds (64 * j)) → more ≡ take ((1 + j) * 32) out ++ (b ++ drop ((1 + j) * 32 + 32) out) → more ≡ joined (take (1 + (j + 1)) (plan_records T s n ds)) ++ drop ((1 + (j + 1)) * 32) start
   one_word start out more b j h e f m =

@@ -1,10 +1,10 @@
 // The first limit that a draft breaks: the ceiling, then the pins, then the entries.
-ghost use Rattle.std.specs.Prelude.{◌≡◌, ◌≤◌, negsuc, ◌≤ℤ◌, not};
+ghost use Rattle.std.specs.Prelude.{◌≡◌, negsuc, ◌≤ℤ◌, not};
 ghost use Rattle.plan_file.specs.Draft.{draft_time, draft_verdict};
 ghost use Rattle.plan_file.specs.Drafts.{entries_from};
 ghost use Rattle.plan_file.specs.Found.{found_as, is_met};
 ghost use Rattle.std.specs.List.{find, range_with_len};
-ghost use Rattle.timing.specs.Bounds.{greatest_delay, least_delay};
+ghost use Rattle.timing.specs.Bounds.{Offset, greatest_delay, least_delay};
 ghost use Rattle.timing.specs.Slacks.{excess, limit_slack};
 ghost use Rattle.timing.specs.declared.refusal.Refusal.TheVariants.{DraftNotLegal};
 
@@ -39,7 +39,7 @@ impl From<Broken> for Refusal {
 fn limit_excess(limit: Limit, pair: Pair, draft: &Draft<'_>) -> u32
     requires min { least_delay ≤ℤ pair.min }
     requires max { pair.max ≤ℤ greatest_delay }
-    requires offset { draft.now.offset ≤ 1000000 }
+    requires offset { Offset draft.now.offset }
     ensures { result ≡ excess (limit_slack limit pair draft.now.period (draft_time draft.now pair.launch) (draft_time draft.now pair.capture)) }
 {
     let launch = draft.clock_time(pair.launch);
@@ -57,7 +57,7 @@ fn excess_of(slack: i128) -> u32
 
 // The first broken limit of an entry, by place, setup before hold.
 fn broken_limit<S: DelaySource>(source: &S, draft: &Draft<'_>) -> Option<Broken>
-    requires { draft.now.offset ≤ 1000000 }
+    requires { Offset draft.now.offset }
     ensures { found_as result ≡ entries_from draft.now.period (draft_time draft.now) 0 (S.meaning source.now).entries }
 {
     let mut found = None;
@@ -105,7 +105,7 @@ pub(crate) fn first_broken<S: DelaySource>(
     ceiling: u32,
     draft: &Draft<'_>,
 ) -> Option<Broken>
-    requires { draft.now.offset ≤ 1000000 }
+    requires { Offset draft.now.offset }
     ensures { found_as result ≡ draft_verdict (S.meaning source.now) pins.now ceiling draft.now }
 {
     if draft.offset > ceiling {

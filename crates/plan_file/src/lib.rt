@@ -2,7 +2,7 @@
 #![tactic(auto)]
 
 pub mod checked;
-pub mod checked_plan;
+mod checked_plan;
 pub mod draft;
 mod first_broken;
 mod head;

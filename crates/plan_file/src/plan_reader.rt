@@ -58,9 +58,7 @@ pub fn read_plan(bytes: &[u8], domains: &mut [u8]) -> Result<PlanNumbers, Fault>
     if bytes.len() % RECORD_BYTES != 0 {
         return Err(Fault::of_file(Refusal::NotWholeRecords));
     }
-    let Some(head) = Head::read(record_bytes(bytes, 0)) else {
-        return Err(Fault::at(Refusal::MalformedRecord, 0));
-    };
+    let head = Head::read(record_bytes(bytes, 0)).ok_or(Fault::at(Refusal::MalformedRecord, 0))?;
     let numbers = head.numbers;
     if ones_in_words(bytes, numbers.registers)? != head.late {
         return Err(Fault::at(Refusal::MalformedRecord, 0));

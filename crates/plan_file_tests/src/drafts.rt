@@ -1,7 +1,6 @@
 // Two registers with a pair each way: 0 to 1 (2, 6) and 1 to 0 (1, 2). With register 1 late by 2, period 4 is legal.
 use crate::samples::{circuit_file, draft, opened};
 use delay_file::encoding::encode_pair;
-use delay_file::view::FileView;
 use plan_file::checked::check;
 use plan_file::draft::Draft;
 use plan_file::slack::slack_at;
@@ -33,13 +32,15 @@ fn circuit(heap: Global) -> Result<Vec<u8>, Fail> {
 }
 
 // What check refuses a draft with, over a file.
-fn refusal(file: &[u8], pins: &[u8], ceiling: u32, draft: Draft<'_>) -> Option<Refusal> {
-    let Ok(view) = FileView::open(file) else {
-        return Some(Refusal::RegisterCount);
-    };
-    check(&view, pins, ceiling, draft)
-        .err()
-        .map(|refused| refused.refusal)
+fn refusal(
+    file: &[u8],
+    pins: &[u8],
+    ceiling: u32,
+    draft: Draft<'_>,
+) -> Result<Option<Refusal>, Fail> {
+    let view = opened(file)?;
+    let answer = check(&view, pins, ceiling, draft);
+    Ok(answer.err().map(|refused| refused.refusal))
 }
 
 // The draft of two registers with the domains turned.
@@ -54,8 +55,8 @@ fn turned(period: u32, offset: u32) -> Draft<'static> {
 #[test]
 fn a_legal_draft_is_taken(rt: HostRuntime) -> Result<(), Fail> {
     let file = circuit(rt.alloc())?;
-    assert_eq!(rt; refusal(&file, &FREE, 1_000_000, draft(4, 2)), None);
-    assert_eq!(rt; refusal(&file, &[0, 1], 2, draft(4, 2)), None);
+    assert_eq!(rt; refusal(&file, &FREE, 1_000_000, draft(4, 2))?, None);
+    assert_eq!(rt; refusal(&file, &[0, 1], 2, draft(4, 2))?, None);
     assert_eq!(rt;
         refusal(
             &file,
@@ -66,7 +67,7 @@ fn a_legal_draft_is_taken(rt: HostRuntime) -> Result<(), Fail> {
                 offset: 0,
                 domains: &[7, 0],
             },
-        ),
+        )?,
         None
     );
     Ok(())
@@ -85,27 +86,27 @@ fn not_legal(part: Part, place: usize, excess: u32) -> Option<Refusal> {
 fn the_first_broken_limit_is_named(rt: HostRuntime) -> Result<(), Fail> {
     let file = circuit(rt.alloc())?;
     assert_eq!(rt;
-        refusal(&file, &[1, 0], 1, draft(3, 2)),
+        refusal(&file, &[1, 0], 1, draft(3, 2))?,
         not_legal(Part::Ceiling, 0, 1)
     );
     assert_eq!(rt;
-        refusal(&file, &[0, 0], 2, draft(3, 2)),
+        refusal(&file, &[0, 0], 2, draft(3, 2))?,
         not_legal(Part::Pin, 1, 0)
     );
     assert_eq!(rt;
-        refusal(&file, &FREE, 2, draft(3, 2)),
+        refusal(&file, &FREE, 2, draft(3, 2))?,
         not_legal(Part::Setup, 0, 1)
     );
     assert_eq!(rt;
-        refusal(&file, &FREE, 3, draft(4, 3)),
+        refusal(&file, &FREE, 3, draft(4, 3))?,
         not_legal(Part::Hold, 0, 1)
     );
     assert_eq!(rt;
-        refusal(&file, &FREE, 9, turned(8, 3)),
+        refusal(&file, &FREE, 9, turned(8, 3))?,
         not_legal(Part::Setup, 0, 1)
     );
     assert_eq!(rt;
-        refusal(&file, &FREE, 9, turned(9, 3)),
+        refusal(&file, &FREE, 9, turned(9, 3))?,
         not_legal(Part::Hold, 1, 2)
     );
     Ok(())
@@ -115,23 +116,23 @@ fn the_first_broken_limit_is_named(rt: HostRuntime) -> Result<(), Fail> {
 fn refusals_come_in_their_order(rt: HostRuntime) -> Result<(), Fail> {
     let mut file = circuit(rt.alloc())?;
     assert_eq!(rt;
-        refusal(&file, &[], 1_000_001, draft(0, 0)),
+        refusal(&file, &[], 1_000_001, draft(0, 0))?,
         Some(Refusal::PeriodOutOfLimits)
     );
     assert_eq!(rt;
-        refusal(&file, &[], 1_000_001, draft(4_096_000_001, 0)),
+        refusal(&file, &[], 1_000_001, draft(4_096_000_001, 0))?,
         Some(Refusal::PeriodOutOfLimits)
     );
     assert_eq!(rt;
-        refusal(&file, &[], 1_000_001, draft(1, 0)),
+        refusal(&file, &[], 1_000_001, draft(1, 0))?,
         Some(Refusal::OffsetOutOfLimits)
     );
     assert_eq!(rt;
-        refusal(&file, &[], 0, draft(1, 1_000_001)),
+        refusal(&file, &[], 0, draft(1, 1_000_001))?,
         Some(Refusal::OffsetOutOfLimits)
     );
     assert_eq!(rt;
-        refusal(&file, &[2], 0, draft(4, 2)),
+        refusal(&file, &[2], 0, draft(4, 2))?,
         Some(Refusal::MemoryTooShort)
     );
     let short = Draft {
@@ -140,7 +141,7 @@ fn refusals_come_in_their_order(rt: HostRuntime) -> Result<(), Fail> {
         domains: &[0],
     };
     assert_eq!(rt;
-        refusal(&file, &FREE, 0, short),
+        refusal(&file, &FREE, 0, short)?,
         Some(Refusal::MemoryTooShort)
     );
     file.extend_from_slice(&encode_pair(Pair {
@@ -150,7 +151,7 @@ fn refusals_come_in_their_order(rt: HostRuntime) -> Result<(), Fail> {
         max: 6,
     }))?;
     assert_eq!(rt;
-        refusal(&file, &[], 0, draft(4, 2)),
+        refusal(&file, &[], 0, draft(4, 2))?,
         Some(Refusal::FaultyEntry { place: 2 })
     );
     Ok(())
@@ -168,10 +169,10 @@ fn too_many_entries(rt: HostRuntime) -> Result<(), Fail> {
     for _ in 0..16_382 {
         file.extend_from_slice(&record)?;
     }
-    assert_eq!(rt; refusal(&file, &FREE, 9, draft(4, 2)), None);
+    assert_eq!(rt; refusal(&file, &FREE, 9, draft(4, 2))?, None);
     file.extend_from_slice(&[0; 32])?;
     assert_eq!(rt;
-        refusal(&file, &[], 9, draft(4, 2)),
+        refusal(&file, &[], 9, draft(4, 2))?,
         Some(Refusal::TooManyEntries)
     );
     Ok(())

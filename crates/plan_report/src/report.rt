@@ -38,6 +38,7 @@ pub fn report(file: &[u8], draft: &Draft<'_>, out: &mut [u8]) -> Result<usize, F
 }
 
 // Puts the first line. Three numbers of 32 bits always fit the memory that it wants.
+#[tactic(auto, using(crate::proofs::Digits::ten_digits))]
 fn push_head(text: &mut Text<'_>, draft: &Draft<'_>, late: u32)
     requires { HasRoom text.old 64 }
     ensures { Pushes (head_line draft.now.period draft.now.offset late) text.old text.new }

@@ -1,36 +1,23 @@
-use Rattle.std.proofs.Common.{length, sym, refl, ap, ◌∙◌}
-use Rattle.timing.specs.Table.{refusal_number}
-use Rattle.plan_file.specs.PlanReading.{refused}
-use Rattle.plan_file.proofs.RoundTrips.{found, room_for_words, read_short, read_granted, read_rest, read_spelled}
+use Rattle.std.proofs.Common.{rules}
+use Rattle.plan_file.proofs.RoundTrips.{found, room_for_words, read_granted, read_spelled}
 use Rattle.plan_file.proofs.plan_reader.read_plan.Goals as goal
 
-pub returns-then-domains-numbers : goal.returns-then-domains-numbers
-returns-then-domains-numbers c =
+pub fill_domains-requires-clause-words : goal.fill_domains-requires-clause-words
+fill_domains-requires-clause-words c =
     let bytes = c.args.bytes.now in
-    let h = c.in-Some.head in
-    let f = found bytes _ h _ c.type_inv.bytes c.if-bytes-ne0.false c.record_bytes.ensures.bytes c.in-Some.ensures c.in_ok-ones_in_words.ensures c.if-branch-head.false in
-    record {
-      answer = ap (λ e. refused (refusal_number e.refusal) e.«record») c.of_file-then-domains-numbers.ensures ∙ sym (read_short bytes h f (length c.args.domains.now) c.if-domains-numbers.true);
-      rest = refl;
-      spelled = tt;
-    }
+    let h = c.in_ok-head.head in
+    room_for_words bytes h (found bytes _ h _ c.type_inv.bytes c.if-bytes-ne0.false c.record_bytes.ensures.bytes (search rules) c.in_ok-ones_in_words.ensures c.if-branch-head.false)
 
-pub fill_domains-requires : goal.fill_domains-requires
-fill_domains-requires c =
+pub returns-clause-answer : goal.returns-clause-answer
+returns-clause-answer c =
     let bytes = c.args.bytes.now in
-    let h = c.in-Some.head in
-    let f = found bytes _ h _ c.type_inv.bytes c.if-bytes-ne0.false c.record_bytes.ensures.bytes c.in-Some.ensures c.in_ok-ones_in_words.ensures c.if-branch-head.false in
-    record { room = c.if-domains-numbers.false; words = room_for_words bytes h f }
+    let h = c.in_ok-head.head in
+    let f = found bytes _ h _ c.type_inv.bytes c.if-bytes-ne0.false c.record_bytes.ensures.bytes (search rules) c.in_ok-ones_in_words.ensures c.if-branch-head.false in
+    read_granted bytes h f c.args.domains.now c.fill_domains.new.domains c.if-domains-numbers.false c.fill_domains.ensures
 
-pub returns : goal.returns
-returns c =
+pub returns-clause-spelled : goal.returns-clause-spelled
+returns-clause-spelled c =
     let bytes = c.args.bytes.now in
-    let was = c.args.domains.now in
-    let out = c.fill_domains.new.domains in
-    let h = c.in-Some.head in
-    let f = found bytes _ h _ c.type_inv.bytes c.if-bytes-ne0.false c.record_bytes.ensures.bytes c.in-Some.ensures c.in_ok-ones_in_words.ensures c.if-branch-head.false in
-    record {
-      answer = read_granted bytes h f was out c.if-domains-numbers.false c.fill_domains.ensures;
-      rest = read_rest bytes h f was out c.if-domains-numbers.false c.fill_domains.ensures;
-      spelled = read_spelled bytes h f was out c.if-domains-numbers.false c.fill_domains.ensures;
-    }
+    let h = c.in_ok-head.head in
+    let f = found bytes _ h _ c.type_inv.bytes c.if-bytes-ne0.false c.record_bytes.ensures.bytes (search rules) c.in_ok-ones_in_words.ensures c.if-branch-head.false in
+    read_spelled bytes h f c.args.domains.now c.fill_domains.new.domains c.if-domains-numbers.false c.fill_domains.ensures

@@ -3,37 +3,6 @@ use Rattle.plan_report.proofs.Digits.{ten_digits}
 use Rattle.plan_report.proofs.Pushes.{pushes_then}
 use Rattle.plan_report.proofs.report.push_head.Goals as goal
 
-pub push_field-requires : goal.push_field-requires
-push_field-requires c =
-    let T = ten_digits c.args.draft.now.period (omega arith) in
-    omega arith
-
-pub push_field-requires-2 : goal.push_field-requires-2
-push_field-requires-2 c =
-    let T = ten_digits c.args.draft.now.period (omega arith) in
-    let s = ten_digits c.args.draft.now.offset (omega arith) in
-    let a = c.push_field.ensures in
-    omega (arith, a.ends, a.same_length)
-
-pub push_field-requires-3 : goal.push_field-requires-3
-push_field-requires-3 c =
-    let T = ten_digits c.args.draft.now.period (omega arith) in
-    let s = ten_digits c.args.draft.now.offset (omega arith) in
-    let l = ten_digits c.args.late (omega arith) in
-    let a = c.push_field.ensures in
-    let b = c.push_field-2.ensures in
-    omega (arith, a.ends, a.same_length, b.ends, b.same_length)
-
-pub push-requires : goal.push-requires
-push-requires c =
-    let T = ten_digits c.args.draft.now.period (omega arith) in
-    let s = ten_digits c.args.draft.now.offset (omega arith) in
-    let l = ten_digits c.args.late (omega arith) in
-    let a = c.push_field.ensures in
-    let b = c.push_field-2.ensures in
-    let d = c.push_field-3.ensures in
-    omega (arith, a.ends, a.same_length, b.ends, b.same_length, d.ends, d.same_length)
-
 pub returns : goal.returns
 returns c =
     let T = ten_digits c.args.draft.now.period (omega arith) in

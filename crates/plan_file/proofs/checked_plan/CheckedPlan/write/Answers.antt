@@ -3,19 +3,12 @@ use Rattle.plan_file.specs.PlanRecords.{head_record, word_record}
 use Rattle.plan_file.specs.Written.{Wrote}
 use Rattle.plan_file.specs.declared.head.Head.{Head}
 use Rattle.plan_file.proofs.RoundTrips.{written_reads_back}
-use Rattle.plan_file.proofs.Writing.{bits_are_registers, headed, started, one_word, ones_are_late, ended}
+use Rattle.plan_file.proofs.Writing.{bits_are_registers, headed, one_word, ones_are_late, ended}
 use Rattle.plan_file.proofs.checked_plan.CheckedPlan.write.Goals as goal
 
 -- the record of a head
 abbrev of_head : Head → List ℕ
 of_head h = head_record h.numbers.period h.numbers.offset h.numbers.registers h.late
-
-pub loop-word-init : goal.loop-word-init
-loop-word-init c =
-    let p = c.args.self.now in
-    let d = p.draft in
-    started d.period d.offset p.registers d.domains.now c.args.out.now c.put_record.new.out
-    (headed d.period d.offset p.registers d.domains.now c.args.out.now c.put_record.new.out c.bytes.result (c.bytes.ensures ∙ ap of_head c.head.ensures) c.put_record.ensures)
 
 pub loop-word-preserved : goal.loop-word-preserved
 loop-word-preserved c =

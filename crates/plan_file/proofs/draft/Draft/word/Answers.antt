@@ -1,6 +1,6 @@
 use Rattle.std.proofs.Common.{ℕ, ◌+◌, Bool, sym, ◌∙◌, arith}
 use Rattle.plan_file.specs.PlanRecords.{late_at}
-use Rattle.plan_file.proofs.Packed.{set_bit, skip_bit, packed_all, packed_none}
+use Rattle.plan_file.proofs.Packed.{set_bit, skip_bit, packed_none}
 use Rattle.plan_file.proofs.draft.Draft.word.Goals as goal
 use Rattle.plan_file.proofs.draft.Draft.word.Goals.{then-is_late, else-is_late}
 
@@ -11,9 +11,6 @@ loop-i-preserved c =
       | then-is_late w ↦ w.word-is ∙ set_bit f c.loop-i.i c.loop-i.word (omega arith) (sym c.is_late.ensures ∙ w.if-is_late.true) c.loop-i.invariant
       | else-is_late w ↦ w.word-is ∙ skip_bit f c.loop-i.i c.loop-i.word (sym c.is_late.ensures ∙ w.if-is_late.false) c.loop-i.invariant
     ]
-
-pub returns : goal.returns
-returns c = c.loop-i.invariant ∙ packed_all _ c.loop-i.i 64 (omega arith)
 
 pub loop-i-init : goal.loop-i-init
 loop-i-init c = packed_none _
