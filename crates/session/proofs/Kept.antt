@@ -5,7 +5,7 @@ use Rattle.std.specs.Borrow.{Bor}
 use Rattle.std.specs.Option.{ok_or, option_copied}
 use Rattle.std.proofs.ByRecursion.{all_from_every, All-map, All-weaker}
 use Rattle.std.proofs.lemmas.Bool.{cases_lt, cond-false, cond-true, le-ltb, lt-ltb, ltb-false, ltb-true}
-use Rattle.std.proofs.lemmas.List.{get_or-map, get_or_past, get_or-take, length-map}
+use Rattle.std.proofs.lemmas.List.{get_or-map, get_or_past, get_or-take, length-map, length-take-le}
 use Rattle.std.proofs.lemmas.List.Folds.{find_at}
 use Rattle.std.proofs.lemmas.List.Quantifiers.{position-Some}
 use Rattle.std.proofs.lemmas.Option.{slice_get_cases}
@@ -18,14 +18,13 @@ use Rattle.session.specs.Book.{book, has, kept}
 use Rattle.session.specs.Pairs.{KeepsLimits, joins}
 use Rattle.session.specs.Saves.{session_meaning}
 use Rattle.session.specs.declared.Session.{Session}
-use Rattle.session.proofs.Look.{length_kept}
 
 module _ (s : Session) where
   pub within_places : s.used ≤ length (vec_items s.pairs)
   within_places = let o = s.pairs.ok.0 in let f = s.fits in omega arith
 
   pub kept_count : length (kept s) ≡ s.used
-  kept_count = length_kept s.used (vec_items s.pairs) within_places
+  kept_count = length-take-le s.used (vec_items s.pairs) within_places
 
   pub kept_at : (k : ℕ) (d : Pair) → k < s.used → get_or (kept s) k d ≡ get_or (vec_items s.pairs) k d
   kept_at k d h = get_or-take s.used (vec_items s.pairs) k d h
