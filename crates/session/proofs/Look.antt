@@ -237,13 +237,6 @@ find_moved n xs i p e a b l ii last apart hit x y =
           ∙ sym (cond-false (eqb x a && eqb y b) None (find (take n xs) x y) f)
     ]
 
-pub find_in : (n : ℕ) (xs : List Pair) (x y : ℕ) (p : Pair) → n ≤ length xs → find (take n xs) x y ≡ Some p → (k : ℕ) × (k < n) × (p ≡ get_or xs k p)
-find_in n xs x y p l e =
-    elim (look n xs x y l) [
-      | inl q ↦ let f = q.0 in let z : ◌≡◌ {A = ℕ} 0 1 = cc in absurd (omega arith)
-      | inr q ↦ (q.k, q.k_in, (let f = q.is p in cc))
-    ]
-
 -- pairs that rise are apart
 before_next : (p q r : Pair) → Before p q → Before q r → Before p r
 before_next p q r (inl a) (inl b) = inl (omega arith)
