@@ -4,7 +4,7 @@ use lib.Signed.{le_z}
 use Rattle.std.specs.List.{AllByRecursion}
 use Rattle.std.specs.Option.{option_or}
 use Rattle.std.proofs.ByRecursion.{all_from_every, All-weaker}
-use Rattle.std.proofs.lemmas.List.{get_or-map, get_or-take, length-map, length-take-le, take_all}
+use Rattle.std.proofs.lemmas.List.{get_or-map, get_or-take, length-map, length-take-le}
 use Rattle.std.proofs.lemmas.Int.{ints}
 use Rattle.std.proofs.lemmas.Bool.{both_ways, cases_Bool, cond-false, cond-true, eq-eqb, lt-leb, or_from}
 use Rattle.timing.specs.Bounds.{RegisterCount, least_delay, greatest_delay, missing}
@@ -19,7 +19,7 @@ use Rattle.delay_file.proofs.Written.{opens_as, pairs_whole}
 use Rattle.session.specs.Book.{Book, Lists, add_answer, added, book, fresh, kept}
 use Rattle.session.specs.Loads.{by_add, load_entries, load_opened, loading, plus, taken}
 use Rattle.session.specs.Pairs.{Apart, KeepsLimits, find, joins}
-use Rattle.session.specs.Saves.{LoadsBack, fresh_with, saved_bytes}
+use Rattle.session.specs.Saves.{LoadsBack, fresh_with}
 use Rattle.session.specs.declared.Session.{Session}
 use Rattle.session.proofs.Books.{same_book}
 use Rattle.session.proofs.Look.{joins_keys, keys_join, or_none}
@@ -33,14 +33,6 @@ pair_saved s k was out more p h e q m =
     let n = length-map (kept s) pair_bytes in
     one_record (map pair_bytes (kept s)) (pairs_whole (kept s)) was k out more (pair_bytes p) (omega arith) e
     (ap pair_bytes q ∙ sym (get_or-map pair_bytes (kept s) k p [] (omega arith))) m
-
--- all pairs
-pub all_saved : (s : Session) (k : ℕ) (was out : List ℕ) → k ≡ s.used → out ≡ joined (take k (map pair_bytes (kept s))) ++ drop (k * 32) was → out ≡ saved_bytes (kept s) ++ drop (length (kept s) * 32) was
-all_saved s k was out h e =
-    let l = kept_count s in
-    let n = length-map (kept s) pair_bytes in
-    let a : k * 32 ≡ length (kept s) * 32 = omega arith in
-    e ∙ ap₂ (λ x m. joined x ++ drop m was) (take_all k (map pair_bytes (kept s)) (omega arith)) a
 
 -- a lawful pair reads back
 delay_fits : (z : ℤ) → least_delay ≤ℤ z → z ≤ℤ greatest_delay → SFits w32 z × (of_z w32 z < 4294967296)
