@@ -53,6 +53,7 @@ impl Session {
             return Err(Refusal::NoSuchRegister);
         }
         let place = self.place(launch, capture).ok_or(Refusal::NoSuchEntry)?;
+        // The place is not taken out of the memory, which is handed back whole.
         let last = self.pairs[self.used - 1];
         self.pairs[place] = last;
         self.used -= 1;
