@@ -50,6 +50,7 @@ pub(crate) fn run_into(
     requires room { length calls.now ≤ vec_capacity answers.old }
     ensures { Runs (book session.old) calls.now answers.new.items (book session.new) }
 {
+    // Each turn changes the session, so a chain would be no plainer.
     for call in calls {
         answers.push_reserved(step(session, heap, call));
     }

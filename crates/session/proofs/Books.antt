@@ -1,14 +1,14 @@
 -- Books with equal parts are equal, and what the book answers.
-use Rattle.std.proofs.Common.{◌≡◌, ℕ, ◌<◌, Bool, true, false, cond, not, ◌||◌, leb, List, [], ◌++◌, take, drop, replicate, is_some, Some, None, Option, sym, refl, ap, ◌∙◌, subst, arith}
+use Rattle.std.proofs.Common.{◌≡◌, ℕ, ◌<◌, false, cond, not, leb, List, ◌++◌, take, drop, replicate, is_some, Some, None, Option, sym, refl, ap, ◌∙◌, subst, arith}
 use Rattle.std.proofs.lemmas.List.{length-replicate, take_at, drop_at}
-use Rattle.std.proofs.lemmas.Bool.{leb-false, lt-leb}
+use Rattle.std.proofs.lemmas.Bool.{leb-false, not-true, or_parts}
 use Rattle.timing.proofs.Judging.{lawful_judged, judged_same}
 use Rattle.timing.proofs.Rows.{passed}
 use Rattle.timing.specs.Delays.{Lawful}
 use Rattle.timing.specs.Meaning.{Entry, pair, faulty, LawfulEntry, judged}
-use Rattle.timing.specs.Outcomes.{Outcome, granted, refused}
+use Rattle.timing.specs.Outcomes.{Outcome, granted}
 use Rattle.timing.specs.declared.pair.Pair.{Pair}
-use Rattle.session.specs.Book.{Book, add_answer, retime_answer, drop_answer, unless_judged, has, full}
+use Rattle.session.specs.Book.{Book, add_answer, unless_judged, has, full}
 use Rattle.session.specs.Pairs.{KeepsLimits}
 
 pub same_book : (b c : Book) → b.registers ≡ c.registers → b.places ≡ c.places → ((x y : ℕ) → b.at x y ≡ c.at x y) → b.count ≡ c.count → b.pins ≡ c.pins → b.ceiling ≡ c.ceiling → b ≡ c
@@ -21,17 +21,9 @@ freed_front n was is e = ap (take n) e ∙ take_at (replicate n 2) (drop n was) 
 pub freed_rest : (n : ℕ) (was is : List ℕ) → is ≡ replicate n 2 ++ drop n was → drop n is ≡ drop n was
 freed_rest n was is e = ap (drop n) e ∙ drop_at (replicate n 2) (drop n was) n (length-replicate n 2)
 
-not_true : (b : Bool) → not b ≡ true → b ≡ false
-not_true true e = sym e
-not_true false e = refl
-
 pub none_there : {X : Type 0} (o : Option X) → is_some o ≡ false → o ≡ None
 none_there None e = refl
 none_there (Some x) e = absurd (let z : ◌≡◌ {A = ℕ} 0 1 = ap (λ b. cond b 1 0) (sym e) in omega arith)
-
-neither : (x y : Bool) → (x || y) ≡ false → (x ≡ false) × (y ≡ false)
-neither true y e = absurd (let z : ◌≡◌ {A = ℕ} 0 1 = ap (λ b. cond b 1 0) (sym e) in omega arith)
-neither false y e = (refl, e)
 
 -- a pair that passes the judgement keeps its limits
 pub kept_limits : (n : ℕ) (p q : Pair) → judged n p ≡ pair q → KeepsLimits n p
@@ -54,19 +46,10 @@ pub addable : (b : Book) (p : Pair) → granted tt ≡ add_answer b p → Addabl
 addable b p h =
     let j = passed_judgement (judged b.registers p) _ h in
     let x = passed (not (has b p.launch p.capture)) 4 tt _ j.1 in
-    let y = neither (leb 16384 b.count) (leb b.places b.count) (not_true (full b) (passed (not (full b)) 6 tt _ x.1).0) in
+    let y = or_parts (leb 16384 b.count) (leb b.places b.count) (not-true (full b) (passed (not (full b)) 6 tt _ x.1).0) in
     record {
       limits = kept_limits b.registers p j.0.0 j.0.1;
-      absent = none_there (b.at p.launch p.capture) (not_true (has b p.launch p.capture) x.0);
+      absent = none_there (b.at p.launch p.capture) (not-true (has b p.launch p.capture) x.0);
       few = leb-false _ _ y.0;
       room = leb-false _ _ y.1;
     }
-
-pub add_present : (b : Book) (p q r : Pair) → judged b.registers p ≡ pair q → b.at p.launch p.capture ≡ Some r → refused 4 [] ≡ add_answer b p
-add_present b p q r j e = rw (j, e)
-
-pub retime_taken : (b : Book) (p q r : Pair) → judged b.registers p ≡ pair q → b.at p.launch p.capture ≡ Some r → granted tt ≡ retime_answer b p
-retime_taken b p q r j e = rw (j, e)
-
-pub drop_taken : (b : Book) (x y : ℕ) (r : Pair) → x < b.registers → y < b.registers → b.at x y ≡ Some r → granted tt ≡ drop_answer b x y
-drop_taken b x y r h k e = rw (lt-leb b.registers x h, lt-leb b.registers y k, e)

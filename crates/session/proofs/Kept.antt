@@ -1,31 +1,26 @@
 -- The pairs that a session keeps, and what it shows as a source of delays.
-use Rattle.std.proofs.Common.{◌≡◌, ℕ, ◌<◌, ◌≤◌, Bool, true, ltb, List, length, get_or, is_some, IfSome, Some, None, Option, Result, vec_items, sym, ap, ◌∙◌, subst, inl, inr, arith}
+use Rattle.std.proofs.Common.{◌≡◌, ℕ, ◌<◌, ◌≤◌, Bool, true, List, length, get_or, is_some, IfSome, Some, None, Option, vec_items, sym, ap, ◌∙◌, subst, inl, inr, arith}
 use Rattle.std.specs.List.{AllByRecursion, find, position, position_or_len}
-use Rattle.std.specs.Borrow.{Bor}
-use Rattle.std.specs.Option.{ok_or, option_copied}
 use Rattle.std.proofs.ByRecursion.{all_from_every, All-map, All-weaker}
-use Rattle.std.proofs.lemmas.Bool.{cases_lt, cond-false, cond-true, le-ltb, lt-ltb, ltb-false, ltb-true}
-use Rattle.std.proofs.lemmas.List.{get_or-map, get_or_past, get_or-take, length-map}
+use Rattle.std.proofs.lemmas.Bool.{cases_lt, cond-false, cond-true, le-ltb, lt-ltb}
+use Rattle.std.proofs.lemmas.List.{get_or-take, length-map, length-take-le}
 use Rattle.std.proofs.lemmas.List.Folds.{find_at}
 use Rattle.std.proofs.lemmas.List.Quantifiers.{position-Some}
 use Rattle.std.proofs.lemmas.Option.{slice_get_cases}
 use Rattle.timing.specs.Delays.{Lawful}
-use Rattle.timing.specs.Meaning.{Entry, pair, faulty, LawfulEntry, LawfulMeaning, answered, entry_at}
+use Rattle.timing.specs.Meaning.{pair, LawfulEntry, LawfulMeaning}
 use Rattle.timing.specs.declared.pair.Pair.{Pair}
-use Rattle.timing.specs.declared.refusal.Refusal.{Refusal}
-use Rattle.timing.specs.declared.refusal.Refusal.TheVariants.{NoSuchEntry}
 use Rattle.session.specs.Book.{book, has, kept}
 use Rattle.session.specs.Pairs.{KeepsLimits, joins}
 use Rattle.session.specs.Saves.{session_meaning}
 use Rattle.session.specs.declared.Session.{Session}
-use Rattle.session.proofs.Look.{length_kept}
 
 module _ (s : Session) where
   pub within_places : s.used ≤ length (vec_items s.pairs)
   within_places = let o = s.pairs.ok.0 in let f = s.fits in omega arith
 
   pub kept_count : length (kept s) ≡ s.used
-  kept_count = length_kept s.used (vec_items s.pairs) within_places
+  kept_count = length-take-le s.used (vec_items s.pairs) within_places
 
   pub kept_at : (k : ℕ) (d : Pair) → k < s.used → get_or (kept s) k d ≡ get_or (vec_items s.pairs) k d
   kept_at k d h = get_or-take s.used (vec_items s.pairs) k d h
@@ -49,26 +44,6 @@ lawful_session s =
       count = s.registers_within;
       each = All-map (LawfulEntry s.registers) pair (kept s) (All-weaker (KeepsLimits s.registers) (Lawful s.registers) (lawful s.registers) (kept s) (kept_lawful s));
     }
-
--- what a session shows at a place
-module _ (s : Session) (place : ℕ) where
-  abbrev pub Shows : Entry → Type 0
-  Shows e = (e ≡ entry_at (session_meaning s) place) × LawfulEntry s.registers e
-
-  shown : (r : Option (Bor Pair)) → is_some r ≡ ltb place (length (kept s)) → IfSome r (λ x. x.now ≡ get_or (kept s) place x.now) → Shows (answered (ok_or (option_copied r) NoSuchEntry))
-  shown None e f =
-      let l = entry_count_is s in
-      let n = kept_count s in
-      let h = ltb-false place (length (kept s)) (sym e) in
-      (sym (get_or_past (session_meaning s).entries place (faulty 5) (omega arith)), tt)
-  shown (Some x) e f =
-      let n = kept_count s in
-      let h = ltb-true place (length (kept s)) (sym e) in
-      let here : x.now ≡ get_or (vec_items s.pairs) place x.now = f ∙ kept_at s place x.now (omega arith) in
-      (ap pair f ∙ sym (get_or-map pair (kept s) place x.now (faulty 5) h), subst (Lawful s.registers) (sym here) (lawful s.registers _ (s.lawful place x.now (omega arith))))
-
-  pub shown_by : (r : Option (Bor Pair)) (o : Option Pair) (a : Result Pair Refusal) → is_some r ≡ ltb place (length (kept s)) → IfSome r (λ x. x.now ≡ get_or (kept s) place x.now) → o ≡ option_copied r → a ≡ ok_or o NoSuchEntry → Shows (answered a)
-  shown_by r o a e f g h = rw (h, g) (shown r e f)
 
 -- a test has a first place in a list where it finds something
 is_some-position : (p : Pair → Bool) (xs : List Pair) → is_some (position p xs) ≡ is_some (find p xs)

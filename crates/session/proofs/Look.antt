@@ -1,6 +1,8 @@
 -- Look-up by places, and how it follows a write.
-use Rattle.std.proofs.Common.{◌≡◌, ℕ, zero, suc, ◌+◌, ◌-◌, ◌<◌, ◌≤◌, true, false, cond, ◌&&◌, eqb, ◌≢◌, ◌⊎◌, List, [], ◌∷◌, ◌++◌, length, get_or, take, set, Some, None, Option, sym, refl, ap, ◌∙◌, subst, inl, inr, arith, length-set, get_or-set_other, get_or-set_same}
-use Rattle.std.proofs.lemmas.List.{take_more_set, get_or_default, length-take-le}
+use Rattle.std.proofs.Common.{◌≡◌, ℕ, zero, suc, ◌+◌, ◌-◌, ◌<◌, ◌≤◌, true, false, cond, ◌&&◌, eqb, ◌≢◌, ◌⊎◌, List, [], ◌∷◌, length, get_or, take, set, Some, None, Option, sym, refl, ap, ◌∙◌, subst, inl, inr, arith, length-set, get_or-set_other, get_or-set_same}
+use Rattle.std.proofs.lemmas.List.{take_more_set, get_or_default}
+use Rattle.std.proofs.lemmas.List.Folds.{find-append}
+use Rattle.std.specs.Option.{option_or}
 use Rattle.std.proofs.lemmas.Bool.{cases_Bool, cases_eq, cond-true, cond-false, and_parts, and_from, eqb-true, eq-eqb, both_ways, and_left, and_right, ne_eqb}
 use Rattle.timing.specs.declared.pair.Pair.{Pair}
 use Rattle.session.specs.Pairs.{joins, find, Twins, Apart, AllLawful, KeepsLimits, Before, Rises}
@@ -69,28 +71,20 @@ found_is n xs a b k l apart h hit d =
     ]
 
 -- one more at the end
-pub find_push_other : (xs : List Pair) (p : Pair) (a b : ℕ) → joins p a b ≡ false → find (xs ++ p ∷ []) a b ≡ find xs a b
-find_push_other [] p a b f = cond-false (joins p a b) _ _ f
-find_push_other (x ∷ xs) p a b f = ap (λ (o : Option Pair). cond (joins x a b) (Some x) o) (find_push_other xs p a b f)
-
-pub find_push_same : (xs : List Pair) (p : Pair) (a b : ℕ) → joins p a b ≡ true → find xs a b ≡ None → find (xs ++ p ∷ []) a b ≡ Some p
-find_push_same [] p a b t e = cond-true (joins p a b) _ _ t
-find_push_same (x ∷ xs) p a b t e =
-    elim (cases_Bool (joins x a b)) [
-      | inl y ↦ let f = cond-true (joins x a b) (Some x) (find xs a b) y in let z : ◌≡◌ {A = ℕ} 0 1 = cc in absurd (omega arith)
-      | inr n ↦ cond-false (joins x a b) _ _ n ∙ find_push_same xs p a b t (sym (cond-false (joins x a b) (Some x) (find xs a b) n) ∙ e)
-    ]
+pub or_none : (o : Option Pair) → option_or o None ≡ o
+or_none None = refl
+or_none (Some p) = refl
 
 pub find_added : (n : ℕ) (xs : List Pair) (p : Pair) (a b : ℕ) → n < length xs → find (take n xs) p.launch p.capture ≡ None →
     find (take (n + 1) (set xs n p)) a b ≡ cond (joins p a b) (Some p) (find (take n xs) a b)
 find_added n xs p a b l e =
-    ap (λ (ys : List Pair). find ys a b) (take_more_set xs n p l) ∙
+    ap (λ (ys : List Pair). find ys a b) (take_more_set xs n p l) ∙ find-append (λ q. joins q a b) (take n xs) (p ∷ []) ∙
     elim (cases_Bool (joins p a b)) [
       | inl t ↦
           let k = joins_keys p a b t in
-          let e2 : find (take n xs) a b ≡ None = ap (λ (v : ℕ). find (take n xs) v b) (sym k.0) ∙ ap (λ (w : ℕ). find (take n xs) p.launch w) (sym k.1) ∙ e in
-          find_push_same (take n xs) p a b t e2 ∙ sym (cond-true (joins p a b) _ _ t)
-      | inr f ↦ find_push_other (take n xs) p a b f ∙ sym (cond-false (joins p a b) _ _ f)
+          let absent : find (take n xs) a b ≡ None = ap (λ (v : ℕ). find (take n xs) v b) (sym k.0) ∙ ap (λ (w : ℕ). find (take n xs) p.launch w) (sym k.1) ∙ e in
+          rw (absent, t)
+      | inr f ↦ rw f (or_none (find (take n xs) a b))
     ]
 
 -- what stands where after a write
@@ -242,17 +236,6 @@ find_moved n xs i p e a b l ii last apart hit x y =
           ])
           ∙ sym (cond-false (eqb x a && eqb y b) None (find (take n xs) x y) f)
     ]
-
-pub find_in : (n : ℕ) (xs : List Pair) (x y : ℕ) (p : Pair) → n ≤ length xs → find (take n xs) x y ≡ Some p → (k : ℕ) × (k < n) × (p ≡ get_or xs k p)
-find_in n xs x y p l e =
-    elim (look n xs x y l) [
-      | inl q ↦ let f = q.0 in let z : ◌≡◌ {A = ℕ} 0 1 = cc in absurd (omega arith)
-      | inr q ↦ (q.k, q.k_in, (let f = q.is p in cc))
-    ]
-
--- the kept pairs as a list
-pub length_kept : (n : ℕ) (xs : List Pair) → n ≤ length xs → length (take n xs) ≡ n
-length_kept n xs l = length-take-le n xs l
 
 -- pairs that rise are apart
 before_next : (p q r : Pair) → Before p q → Before q r → Before p r

@@ -1,9 +1,10 @@
 -- The pairs of a session saved: their records one behind the other, which load as the same pairs.
-use Rattle.std.proofs.Common.{◌≡◌, ℕ, zero, suc, ◌+◌, ◌*◌, ◌<◌, ◌≤◌, true, false, ◌&&◌, ◌||◌, eqb, leb, List, [], ◌∷◌, ◌++◌, map, length, get_or, take, drop, ℤ, pos, negsuc, ◌≤ℤ◌, Some, None, vec_items, Option, sym, refl, ap, ◌∙◌, subst, ap₂, inl, inr, arith, w32, SFits, of_z}
+use Rattle.std.proofs.Common.{◌≡◌, ℕ, zero, suc, ◌+◌, ◌*◌, ◌<◌, ◌≤◌, true, false, ◌&&◌, ◌||◌, eqb, leb, List, [], ◌∷◌, ◌++◌, map, length, get_or, take, drop, ℤ, pos, negsuc, ◌≤ℤ◌, None, vec_items, sym, refl, ap, ◌∙◌, subst, ap₂, inl, inr, arith, w32, SFits, of_z}
 use lib.Signed.{le_z}
 use Rattle.std.specs.List.{AllByRecursion}
+use Rattle.std.specs.Option.{option_or}
 use Rattle.std.proofs.ByRecursion.{all_from_every, All-weaker}
-use Rattle.std.proofs.lemmas.List.{get_or-map, get_or-take, length-map, length-take-le, take_all}
+use Rattle.std.proofs.lemmas.List.{get_or-map, get_or-take, length-map, length-take-le}
 use Rattle.std.proofs.lemmas.Int.{ints}
 use Rattle.std.proofs.lemmas.Bool.{both_ways, cases_Bool, cond-false, cond-true, eq-eqb, lt-leb, or_from}
 use Rattle.timing.specs.Bounds.{RegisterCount, least_delay, greatest_delay, missing}
@@ -18,10 +19,10 @@ use Rattle.delay_file.proofs.Written.{opens_as, pairs_whole}
 use Rattle.session.specs.Book.{Book, Lists, add_answer, added, book, fresh, kept}
 use Rattle.session.specs.Loads.{by_add, load_entries, load_opened, loading, plus, taken}
 use Rattle.session.specs.Pairs.{Apart, KeepsLimits, find, joins}
-use Rattle.session.specs.Saves.{LoadsBack, fresh_with, saved_bytes}
+use Rattle.session.specs.Saves.{LoadsBack, fresh_with}
 use Rattle.session.specs.declared.Session.{Session}
 use Rattle.session.proofs.Books.{same_book}
-use Rattle.session.proofs.Look.{joins_keys, keys_join}
+use Rattle.session.proofs.Look.{joins_keys, keys_join, or_none}
 use Rattle.session.proofs.Turns.{plus_count, plus_places, plus_registers}
 use Rattle.session.proofs.Kept.{kept_count, kept_lawful, within_places}
 
@@ -32,14 +33,6 @@ pair_saved s k was out more p h e q m =
     let n = length-map (kept s) pair_bytes in
     one_record (map pair_bytes (kept s)) (pairs_whole (kept s)) was k out more (pair_bytes p) (omega arith) e
     (ap pair_bytes q ∙ sym (get_or-map pair_bytes (kept s) k p [] (omega arith))) m
-
--- all pairs
-pub all_saved : (s : Session) (k : ℕ) (was out : List ℕ) → k ≡ s.used → out ≡ joined (take k (map pair_bytes (kept s))) ++ drop (k * 32) was → out ≡ saved_bytes (kept s) ++ drop (length (kept s) * 32) was
-all_saved s k was out h e =
-    let l = kept_count s in
-    let n = length-map (kept s) pair_bytes in
-    let a : k * 32 ≡ length (kept s) * 32 = omega arith in
-    e ∙ ap₂ (λ x m. joined x ++ drop m was) (take_all k (map pair_bytes (kept s)) (omega arith)) a
 
 -- a lawful pair reads back
 delay_fits : (z : ℤ) → least_delay ≤ℤ z → z ≤ℤ greatest_delay → SFits w32 z × (of_z w32 z < 4294967296)
@@ -118,15 +111,6 @@ all_taken b k (p ∷ ps) h d n few room =
     ap (λ (a : Outcome (Unit {0})). by_add k a (load_entries (added b p) (k + 1) (map pair ps))) (granted_add b p h.0 n.0 (omega arith) (omega arith))
     ∙ all_taken (added b p) (k + 1) ps h.1 d.1 (still_absent b p ps d.0 n.1) (omega arith) (omega arith)
 
--- what is then found: a pair of the list, else what the book had
-abbrev or_else : Option Pair → Option Pair → Option Pair
-or_else None o = o
-or_else (Some p) o = Some p
-
-or_none : (o : Option Pair) → or_else o None ≡ o
-or_none None = refl
-or_none (Some p) = refl
-
 unlike_none : (p : Pair) (ps : List Pair) (x y : ℕ) → joins p x y ≡ true → AllByRecursion (Unlike p) ps → find ps x y ≡ None
 unlike_none p [] x y t u = refl
 unlike_none p (q ∷ ps) x y t u =
@@ -138,7 +122,8 @@ unlike_none p (q ∷ ps) x y t u =
       | inr f ↦ cond-false (joins q x y) _ _ f ∙ unlike_none p ps x y t u.1
     ]
 
-plus_at : (b : Book) (ps : List Pair) (x y : ℕ) → Distinct ps → (plus b ps).at x y ≡ or_else (find ps x y) (b.at x y)
+-- what is then found: a pair of the list, else what the book had
+plus_at : (b : Book) (ps : List Pair) (x y : ℕ) → Distinct ps → (plus b ps).at x y ≡ option_or (find ps x y) (b.at x y)
 plus_at b [] x y d = refl
 plus_at b (p ∷ ps) x y d =
     plus_at (added b p) ps x y d.1

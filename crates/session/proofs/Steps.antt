@@ -1,12 +1,11 @@
 -- The steps of a load, entry by entry.
-use Rattle.std.proofs.Common.{◌≡◌, ℕ, ◌+◌, ◌-◌, ◌<◌, ◌≤◌, Bool, true, false, cond, ◌&&◌, eqb, List, ◌∷◌, length, get_or, take, drop, Some, Option, Ok, Err, Result, sym, refl, ap, ◌∙◌, subst, ap₂, inl, inr, arith}
+use Rattle.std.proofs.Common.{◌≡◌, ℕ, ◌+◌, ◌-◌, ◌<◌, Bool, true, false, cond, ◌&&◌, eqb, List, ◌∷◌, length, get_or, take, drop, Some, Option, Ok, Err, Result, sym, refl, ap, ◌∙◌, subst, ap₂, inl, inr, arith}
 use Rattle.std.specs.Result.{IsOk}
-use Rattle.std.proofs.lemmas.List.{at_drop_all, take_more}
+use Rattle.std.proofs.lemmas.List.{take_more}
 use Rattle.timing.proofs.Judging.{judged_same}
 use Rattle.timing.proofs.Places.{step_entry}
 use Rattle.timing.specs.Meaning.{Entry, pair, faulty, entry_at, judged}
 use Rattle.timing.specs.Outcomes.{Outcome, granted, refused}
-use Rattle.timing.specs.Table.{refusal_number}
 use Rattle.timing.specs.declared.pair.Pair.{Pair}
 use Rattle.delay_file.proofs.Entries.{answered_entry, answer_there, entry_at_is, entry_count_is}
 use Rattle.delay_file.specs.Bytes.{every, is_zero}
@@ -17,7 +16,7 @@ use Rattle.delay_file.specs.declared.fault.Fault.{Fault}
 use Rattle.delay_file.specs.declared.view.FileView.{FileView}
 use Rattle.session.specs.Book.{Book, add_answer, added}
 use Rattle.session.specs.Loads.{Loading, taken, stopped, by_add, given_pairs, load_entries, plus}
-use Rattle.session.specs.Orders.{KnownOrder, OrderedWith, Takes, with_first}
+use Rattle.session.specs.Orders.{KnownOrder, OrderedWith, with_first}
 use Rattle.session.specs.Pairs.{Before}
 use Rattle.session.specs.declared.order.Order.{Order}
 use Rattle.session.specs.declared.order.Order.TheVariants.{Nothing, RisesTo, Mixed}
@@ -64,9 +63,6 @@ module _ (v : FileView) (i : ℕ) (within : i < length (given_pairs v)) where
       ap (λ x. load_entries b (view_registers v + i) (x ∷ rest)) f ∙ ap (stopped number) (sym r)
 
   -- a pair that add would refuse at its turn
-  pub pair_stops : (p : Pair) (b : Book) (rest : List Entry) (f : Fault) → entry_at (view_meaning v) i ≡ pair p → Takes (view_registers v + i) (add_answer b p) (Err f) → load_entries b (view_registers v + i) (entry_at (view_meaning v) i ∷ rest) ≡ stopped (refusal_number f.refusal) f.«record»
-  pair_stops p b rest f e a = ap (λ x. load_entries b (view_registers v + i) (x ∷ rest)) e ∙ a (load_entries (added b p) (view_registers v + i + 1) rest)
-
   -- the first i pairs and this one
   pub first_more : (b : Book) (p : Pair) → ((d : Pair) → p ≡ get_or (given_pairs v) i d) → added (with_first b v i) p ≡ with_first b v (i + 1)
   first_more b p e =
@@ -90,10 +86,6 @@ module _ (v : FileView) (i : ℕ) (within : i < length (given_pairs v)) where
 pub given_there : (v : FileView) (i n : ℕ) → i < n → n ≡ length (view_meaning v).entries → i < length (given_pairs v)
 given_there v i n h e = omega (arith, given_length v, entry_count_is v)
 
--- all entries
-pub load_end : (v : FileView) (i k : ℕ) (b : Book) → length (view_meaning v).entries ≤ i → load_entries b k (drop i (view_meaning v).entries) ≡ taken b
-load_end v i k b h = at_drop_all (load_entries b k) (view_meaning v).entries i h
-
 taken_by : (o : Outcome (Unit {0})) (k : ℕ) (rest : Loading) (c : Book) → by_add k o rest ≡ taken c → granted tt ≡ o
 taken_by (granted t) k rest c e = refl
 taken_by (refused number values) k rest c e = absurd (let z : ◌≡◌ {A = ℕ} 0 1 = cc in omega arith)
@@ -110,10 +102,6 @@ order_more ps i p (RisesTo q) r h is k (inl w) =
     rw w.0 (omega arith, λ d. is d ∙ ap (λ j. get_or ps j d) (omega arith), rises_more ps i p h k.2 (λ _. subst (λ x. Before x (get_or ps i p)) (k.1 p) (subst (Before q) (is p) w.1)))
 order_more ps i p (RisesTo q) r h is k (inr w) = rw w tt
 order_more ps i p Mixed r h is k w = rw w tt
-
--- before the first entry
-pub load_start : (b : Book) (v : FileView) → load_entries b (view_registers v) (view_meaning v).entries ≡ load_entries (with_first b v 0) (view_registers v + 0) (drop 0 (view_meaning v).entries)
-load_start b v = let z : view_registers v ≡ view_registers v + 0 = omega arith in ap (λ k. load_entries b k (view_meaning v).entries) z
 
 -- In a load that goes through, the entry at a place is a pair, and add takes it.
 module _ (v : FileView) (i : ℕ) (within : i < length (given_pairs v)) (b c : Book) (goes : load_entries b (view_registers v + i) (drop i (view_meaning v).entries) ≡ taken c) where

@@ -1,5 +1,6 @@
 -- The turns of a load: the pairs of a file before a place, and what add would answer to the next.
 use Rattle.std.proofs.Common.{◌≡◌, ℕ, ◌+◌, ◌-◌, ◌<◌, ◌≤◌, min, Bool, true, false, cond, ◌||◌, leb, ◌⊎◌, List, [], ◌∷◌, ◌++◌, length, get_or, take, is_some, MatchBool, Some, Option, Err, sym, refl, ap, ◌∙◌, ap₂, inl, inr, arith}
+use Rattle.std.proofs.Math.Bool.{or-true}
 use Rattle.std.proofs.lemmas.List.FromFn.{length-map-range_with_len, get_or-map-range_with_len}
 use Rattle.std.proofs.lemmas.List.{length-take-le}
 use Rattle.std.proofs.lemmas.Bool.{both_ways, cases_Bool, cases_lt, le-leb, lt-leb}
@@ -78,15 +79,11 @@ pub plus_count : (b : Book) (ps : List Pair) → (plus b ps).count ≡ b.count +
 plus_count b [] = omega arith
 plus_count b (p ∷ ps) = let e = plus_count (added b p) ps in omega arith
 
-pub or_true : (b : Bool) → (b || true) ≡ true
-or_true true = refl
-or_true false = refl
-
 plus_has : (b : Book) (ps : List Pair) (x y : ℕ) → has (plus b ps) x y ≡ (is_some (find ps x y) || has b x y)
 plus_has b [] x y = refl
 plus_has b (p ∷ ps) x y =
     plus_has (added b p) ps x y
-    ∙ elim (cases_Bool (joins p x y)) [ inl t ↦ rw t (or_true (is_some (find ps x y))) | inr f ↦ rw f ]
+    ∙ elim (cases_Bool (joins p x y)) [ inl t ↦ rw t (or-true (is_some (find ps x y))) | inr f ↦ rw f ]
 
 -- the answer of add to a lawful pair, by the two tests that are left
 add_by : (b : Book) (p : Pair) (x y : Bool) → judged b.registers p ≡ pair p → has b p.launch p.capture ≡ x → full b ≡ y → add_answer b p ≡ cond x (refused 4 []) (cond y (refused 6 []) (granted tt))
@@ -120,7 +117,7 @@ module _ (b : Book) (ps : List Pair) (i : ℕ) (p : Pair) (within : i ≤ length
 
   pub turn_full : is_some (find (take i ps) p.launch p.capture) ≡ false → has b p.launch p.capture ≡ false → (16384 ≤ b.count + i) ⊎ (b.places ≤ b.count + i) → refused 6 [] ≡ add_answer so_far p
   turn_full e f (inl h) = sym (turn false false true e f (rw (le-leb 16384 (b.count + i) h)))
-  turn_full e f (inr h) = sym (turn false false true e f (rw (le-leb b.places (b.count + i) h) (or_true (leb 16384 (b.count + i)))))
+  turn_full e f (inr h) = sym (turn false false true e f (rw (le-leb b.places (b.count + i) h) (or-true (leb 16384 (b.count + i)))))
 
   pub turn_taken : is_some (find (take i ps) p.launch p.capture) ≡ false → has b p.launch p.capture ≡ false → b.count + i < 16384 → b.count + i < b.places → granted tt ≡ add_answer so_far p
   turn_taken e f h k = sym (turn false false false e f (rw (lt-leb 16384 (b.count + i) h, lt-leb b.places (b.count + i) k)))

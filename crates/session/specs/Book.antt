@@ -2,10 +2,11 @@
 -- order in which pairs are kept is no part of it.
 use Rattle.std.specs.Prelude.{◌≡◌, ℕ, ◌+◌, ◌-◌, Bool, cond, not, ◌&&◌, ◌||◌, List, [], length, take, drop, replicate, is_some, Some, None, Ok, Err, vec_items, vec_len, Option, Result, ◌==◌, nat_le, slice_set}
 use Rattle.timing.specs.Meaning.{Entry, pair, faulty, judged}
-use Rattle.timing.specs.Outcomes.{Outcome, granted, refused, unless, offset_within}
+use Rattle.timing.specs.Outcomes.{Outcome, granted, refused, told, unless, offset_within}
 use Rattle.timing.specs.Domains.{domain_byte}
 use Rattle.timing.specs.declared.domain.Domain.{Domain}
 use Rattle.timing.specs.declared.pair.Pair.{Pair}
+use Rattle.timing.specs.declared.refusal.Refusal.{Refusal}
 use Rattle.session.specs.Pairs.{joins, find}
 use Rattle.session.specs.declared.Session.{Session}
 
@@ -131,6 +132,10 @@ book s =
       pins = take s.registers (vec_items s.pins);
       ceiling = s.ceiling;
     }
+
+-- an edit leaves this book in force where it was granted, and else what was
+abbrev pub Leaves : Session → Session → Result (Unit {0}) Refusal → Book → Type 0
+Leaves was is r next = book is ≡ after (told r) (book was) next
 
 -- A refused edit leaves the session whole, all of its memory included; a granted one never writes past the pins of the
 -- registers.

@@ -1,5 +1,5 @@
 ghost use Rattle.std.specs.Prelude.{◌≡◌, ◌<◌, true, is_some, IfSome, position, slice_index_or};
-ghost use Rattle.session.specs.Book.{Stays, add_answer, added, after, book, ceiled, ceiling_answer, drop_answer, dropped, has, kept, pin_answer, pin_byte, pinned, retime_answer, retimed};
+ghost use Rattle.session.specs.Book.{Leaves, Stays, add_answer, added, book, ceiled, ceiling_answer, drop_answer, dropped, has, kept, pin_answer, pin_byte, pinned, retime_answer, retimed};
 ghost use Rattle.session.specs.Pairs.{joins};
 ghost use Rattle.timing.specs.Domains.{domain_byte};
 ghost use Rattle.timing.specs.Outcomes.{granted, told};
@@ -15,7 +15,7 @@ impl Session {
     // Puts a pair in: refused with 2, 14, 3, 4 and 6.
     pub fn add(&mut self, pair: Pair) -> Result<(), Refusal>
         ensures answer { told result ≡ add_answer (book self.old) pair }
-        ensures next { book self.new ≡ after (told result) (book self.old) (added (book self.old) pair) }
+        ensures next { Leaves self.old self.new result (added (book self.old) pair) }
         ensures stays { Stays self.old self.new result }
     {
         pair.validate(self.registers)?;
@@ -32,7 +32,7 @@ impl Session {
     // Sets the delays of a pair that is there: refused with 2, 14, 3 and 5.
     pub fn retime(&mut self, pair: Pair) -> Result<(), Refusal>
         ensures answer { told result ≡ retime_answer (book self.old) pair }
-        ensures next { book self.new ≡ after (told result) (book self.old) (retimed (book self.old) pair) }
+        ensures next { Leaves self.old self.new result (retimed (book self.old) pair) }
         ensures stays { Stays self.old self.new result }
     {
         pair.validate(self.registers)?;
@@ -46,13 +46,14 @@ impl Session {
     // Takes the pair between two registers out; its place serves later adds. Refused with 2 and 5.
     pub fn drop_pair(&mut self, launch: u32, capture: u32) -> Result<(), Refusal>
         ensures answer { told result ≡ drop_answer (book self.old) launch capture }
-        ensures next { book self.new ≡ after (told result) (book self.old) (dropped (book self.old) launch capture) }
+        ensures next { Leaves self.old self.new result (dropped (book self.old) launch capture) }
         ensures stays { Stays self.old self.new result }
     {
         if launch >= self.registers || capture >= self.registers {
             return Err(Refusal::NoSuchRegister);
         }
         let place = self.place(launch, capture).ok_or(Refusal::NoSuchEntry)?;
+        // The place is not taken out of the memory, which is handed back whole.
         let last = self.pairs[self.used - 1];
         self.pairs[place] = last;
         self.used -= 1;
@@ -62,7 +63,7 @@ impl Session {
     // Pins a register to a domain, in place of an older pin. Refused with 2.
     pub fn pin(&mut self, register: u32, domain: Domain) -> Result<(), Refusal>
         ensures answer { told result ≡ pin_answer (book self.old) register }
-        ensures next { book self.new ≡ after (told result) (book self.old) (pinned (book self.old) register (domain_byte domain)) }
+        ensures next { Leaves self.old self.new result (pinned (book self.old) register (domain_byte domain)) }
         ensures stays { Stays self.old self.new result }
     {
         self.set_pin(register, Some(domain))
@@ -71,7 +72,7 @@ impl Session {
     // Leaves a register free. Refused with 2.
     pub fn unpin(&mut self, register: u32) -> Result<(), Refusal>
         ensures answer { told result ≡ pin_answer (book self.old) register }
-        ensures next { book self.new ≡ after (told result) (book self.old) (pinned (book self.old) register 2) }
+        ensures next { Leaves self.old self.new result (pinned (book self.old) register 2) }
         ensures stays { Stays self.old self.new result }
     {
         self.set_pin(register, None)
@@ -80,7 +81,7 @@ impl Session {
     // Pins a register to a domain, or leaves it free.
     fn set_pin(&mut self, register: u32, pin: Option<Domain>) -> Result<(), Refusal>
         ensures answer { told result ≡ pin_answer (book self.old) register }
-        ensures next { book self.new ≡ after (told result) (book self.old) (pinned (book self.old) register (pin_byte pin)) }
+        ensures next { Leaves self.old self.new result (pinned (book self.old) register (pin_byte pin)) }
         ensures stays { Stays self.old self.new result }
     {
         if register >= self.registers {
@@ -93,7 +94,7 @@ impl Session {
     // Sets the ceiling of offsets. Refused with 7.
     pub fn set_ceiling(&mut self, ceiling: u32) -> Result<(), Refusal>
         ensures answer { told result ≡ ceiling_answer ceiling }
-        ensures next { book self.new ≡ after (told result) (book self.old) (ceiled (book self.old) ceiling) }
+        ensures next { Leaves self.old self.new result (ceiled (book self.old) ceiling) }
         ensures stays { Stays self.old self.new result }
     {
         check_offset(ceiling)?;

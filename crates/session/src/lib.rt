@@ -21,6 +21,7 @@ pub mod view;
 #[derive(Drop)]
 pub struct Session {
     registers: u32,
+    // All of the memory as it was handed in, since no edit may allocate; so how much of it is used stands beside it.
     pairs: Vec<Pair>,
     used: usize,
     pins: Vec<u8>,

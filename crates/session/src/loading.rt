@@ -40,6 +40,7 @@ impl Session {
         ensures { AllAdmitted (book self.now) view.now result }
     {
         let mut order = Order::Nothing;
+        // A file is asked by place, and `?` ends this at the first fault; a `try_fold` would be no plainer.
         for place in 0..view.entry_count() {
             order = self.admit(view, place, order)?;
         }
@@ -70,6 +71,7 @@ impl Session {
         ensures next { taken (book self.new) ≡ load_entries (book self.old) (view_registers view.now) (view_meaning view.now).entries }
         ensures pins { self.new.pins ≡ self.old.pins }
     {
+        // A file is asked by place, and each turn changes the session, so a chain would be no plainer.
         for place in 0..view.entry_count() {
             self.put(view.pair(place).unwrap());
         }

@@ -51,13 +51,7 @@ impl Session {
     pub fn close(self) -> (Vec<Pair>, Vec<u8>)
         ensures { (result.0 ≡ self.pairs) × (result.1 ≡ self.pins) }
     {
-        let Session {
-            registers: _,
-            pairs,
-            used: _,
-            pins,
-            ceiling: _,
-        } = self;
+        let Session { pairs, pins, .. } = self;
         (pairs, pins)
     }
 }

@@ -143,6 +143,7 @@ fn files_that_do_not_fit_or_open(rt: HostRuntime) -> Result<(), Fail> {
 // The pairs between each two of so many registers, in rising order.
 fn all_pairs(heap: Global, registers: u32) -> Result<Vec<Pair>, Fail> {
     let mut pairs = Vec::new(heap);
+    // A push may lack memory, so `?` stands here where a chain has none.
     for launch in 0..registers {
         for capture in 0..registers {
             pairs.push(pair(launch, capture, 2, 6))?;
@@ -155,6 +156,7 @@ fn all_pairs(heap: Global, registers: u32) -> Result<Vec<Pair>, Fail> {
 fn distinct(heap: Global, session: &Session, registers: u32) -> Result<usize, Fail> {
     let mut seen = BTreeSet::new(heap);
     let view = session.view();
+    // An insertion may lack memory, so `?` stands here where a chain has none.
     for place in 0..view.entry_count() {
         match view.entry(place) {
             Ok(

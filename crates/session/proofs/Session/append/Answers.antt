@@ -1,7 +1,7 @@
-use Rattle.std.proofs.Common.{sym, ap, ◌∙◌, arith}
+use Rattle.std.proofs.Common.{sym, ap, ◌∙◌}
 use Rattle.delay_file.specs.Records.{seen_pair}
 use Rattle.session.specs.Book.{book}
-use Rattle.session.proofs.Steps.{entry_read, given_there, load_on, load_end, reads_pair, takes_next}
+use Rattle.session.proofs.Steps.{entry_read, given_there, load_on, reads_pair, takes_next}
 use Rattle.session.proofs.Session.append.Goals as goal
 
 pub unwrap-requires : goal.unwrap-requires
@@ -28,8 +28,3 @@ loop-place-preserved c =
     let e = entry_read v i h c.unwrap.result (ap seen_pair (sym c.unwrap.ensures) ∙ c.pair.ensures) in
     let a = takes_next v i h b c.requires.0 (sym c.loop-place.invariant.0 ∙ c.requires.1) c.unwrap.result e in
     (c.loop-place.invariant.0 ∙ load_on v i h b (book c.put.new.self) c.unwrap.result e a (sym c.put.ensures.next), c.put.ensures.pins ∙ c.loop-place.invariant.1)
-
-pub returns : goal.returns
-returns c =
-    let v = c.args.view.now in
-    record { next = sym (c.loop-place.invariant.0 ∙ load_end v c.loop-place.place _ (book c.loop-place.self) (omega (arith, c.entry_count-place-end.ensures))); pins = c.loop-place.invariant.1 }

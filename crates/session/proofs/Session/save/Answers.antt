@@ -1,9 +1,9 @@
-use Rattle.std.proofs.Common.{List, refl, length, get_or, ap, ◌∙◌, arith}
+use Rattle.std.proofs.Common.{List, length, get_or, ap, ◌∙◌, arith}
 use Rattle.std.proofs.lemmas.List.{get_or_default}
 use Rattle.timing.specs.declared.pair.Pair.{Pair}
 use Rattle.session.specs.Book.{kept}
 use Rattle.session.proofs.Kept.{kept_count}
-use Rattle.session.proofs.SavedPairs.{all_saved, lists_kept, loads_kept, pair_saved}
+use Rattle.session.proofs.SavedPairs.{loads_kept, pair_saved}
 use Rattle.session.proofs.Session.save.Goals as goal
 
 pub loop-place-preserved : goal.loop-place-preserved
@@ -15,19 +15,8 @@ loop-place-preserved c =
     pair_saved s k c.args.out.now c.loop-place.out c.put_pair.new.out (get_or c.kept-kept.result.now k _) (omega arith) c.loop-place.invariant
     (ap (λ (ps : List Pair). get_or ps k _) c.kept-kept.ensures ∙ get_or_default (kept s) k _ _ (omega arith)) c.put_pair.ensures
 
-pub returns-then-out-bytes : goal.returns-then-out-bytes
-returns-then-out-bytes c =
-    let s = c.args.self.now in
-    let l = kept_count s in
-    record { saved = (refl, omega arith, refl); lists = lists_kept s; loads_back = loads_kept s }
+pub returns-then-out-bytes-clause-loads_back : goal.returns-then-out-bytes-clause-loads_back
+returns-then-out-bytes-clause-loads_back c = loads_kept c.args.self.now
 
-pub returns : goal.returns
-returns c =
-    let s = c.args.self.now in
-    let l = kept_count s in
-    let n = ap length c.kept-kept.ensures in
-    record {
-      saved = (omega arith, omega arith, all_saved s c.loop-place.place c.args.out.now c.loop-place.out (omega arith) c.loop-place.invariant);
-      lists = lists_kept s;
-      loads_back = loads_kept s;
-    }
+pub returns-clause-loads_back : goal.returns-clause-loads_back
+returns-clause-loads_back c = loads_kept c.args.self.now

@@ -1,8 +1,9 @@
 use Rattle.std.proofs.Common.{◌≡◌, ◌-◌, ◌≤◌, min, true, sym, refl, ap, ◌∙◌, arith}
+use Rattle.std.proofs.Math.Bool.{or-true}
 use Rattle.timing.specs.Meaning.{judged, pair}
 use Rattle.session.specs.Book.{book}
 use Rattle.session.specs.Loads.{given_pairs}
-use Rattle.session.proofs.Turns.{or_true, stops_with, turn_present, turn_full, turn_taken, none_spare}
+use Rattle.session.proofs.Turns.{stops_with, turn_present, turn_full, turn_taken, none_spare}
 use Rattle.session.proofs.Session.would_add.Goals as goal
 use Rattle.session.proofs.Session.would_add.Goals.{then-is_some-via-then-is_some, then-is_some-via-else-is_some+then-repeats}
 
@@ -15,7 +16,7 @@ returns-then-is_some c =
     stops_with _ _ _ c.fault.ensures
     (elim c.then-is_some.branch [
       | then-is_some-via-then-is_some w ↦
-          turn_present b ps t.place t.pair (omega (arith, t.within)) l _ true refl (sym c.place.ensures.found ∙ sym c.is_some.ensures ∙ w.if-is_some.true) (or_true _)
+          turn_present b ps t.place t.pair (omega (arith, t.within)) l _ true refl (sym c.place.ensures.found ∙ sym c.is_some.ensures ∙ w.if-is_some.true) (or-true _)
       | then-is_some-via-else-is_some+then-repeats w ↦
           turn_present b ps t.place t.pair (omega (arith, t.within)) l true _ (sym w.repeats.ensures ∙ w.if-repeats.true) refl refl
     ])
