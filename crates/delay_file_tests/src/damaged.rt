@@ -22,66 +22,49 @@ fn good_file() -> Option<[u8; 96]> {
     Some(file)
 }
 
-// What is answered for a file: whether it opens and with how many registers, or the number and the record it is
-// refused with; and what its first entry is refused with, 0 if it is a lawful pair.
+// A file that opens: how many registers it has, and the number that its first entry is refused with, if it is.
 #[derive(Clone, Copy, PartialEq, Eq, Debug)]
-enum Answer {
-    Opened { registers: u32, entry: u32 },
-    Refused { number: u32, record: Option<usize> },
+struct Opened {
+    registers: u32,
+    entry: Option<u32>,
 }
 
-fn answer_for(file: &[u8]) -> Answer {
-    match FileView::open(file) {
-        Ok(view) => Answer::Opened {
-            registers: view.registers(),
-            entry: first_entry(&view),
-        },
-        Err(fault) => Answer::Refused {
-            number: fault.refusal.number(),
-            record: fault.record,
-        },
-    }
+// What is answered for a file: that it opens, or the number and the record that it is refused with.
+fn answer_for(file: &[u8]) -> Result<Opened, (u32, Option<usize>)> {
+    let view = FileView::open(file).map_err(|fault| (fault.refusal.number(), fault.record))?;
+    Ok(Opened {
+        registers: view.registers(),
+        entry: view.pair(0).err().map(|fault| fault.refusal.number()),
+    })
 }
 
-fn first_entry(view: &FileView<'_>) -> u32 {
-    match view.pair(0) {
-        Ok(_) => 0,
-        Err(fault) => fault.refusal.number(),
-    }
-}
+const AS_MADE: Result<Opened, (u32, Option<usize>)> = Ok(Opened {
+    registers: 2,
+    entry: None,
+});
+
+const RECORD_1_MALFORMED: Result<Opened, (u32, Option<usize>)> = Err((13, Some(1)));
+
+// Record 1 is no register any more, and as an entry it is malformed.
+const REGISTERS_END: Result<Opened, (u32, Option<usize>)> = Ok(Opened {
+    registers: 1,
+    entry: Some(13),
+});
 
 // The top bit of byte 0 turned: record 1 is no register any more, so the registers end before it and it is a faulty
 // entry. The top bit of any other byte turned: a zero byte, the number or the name breaks the format at record 1.
 #[test]
 fn a_register_record_with_a_bit_turned(rt: HostRuntime) -> Result<(), Fail> {
     let good = good_file().ok_or("the file is made")?;
-    assert_eq!(rt;
-        answer_for(&good),
-        Answer::Opened {
-            registers: 2,
-            entry: 0,
-        }
-    );
+    assert_eq!(rt; answer_for(&good), AS_MADE);
     for at in 0..32 {
         let mut file = good;
         file[32 + at] ^= 128;
-        if at == 0 {
-            assert_eq!(rt;
-                answer_for(&file),
-                Answer::Opened {
-                    registers: 1,
-                    entry: 13,
-                }
-            );
-        } else {
-            assert_eq!(rt;
-                answer_for(&file),
-                Answer::Refused {
-                    number: 13,
-                    record: Some(1),
-                }
-            );
-        }
+        let expected = match at {
+            0 => REGISTERS_END,
+            _ => RECORD_1_MALFORMED,
+        };
+        assert_eq!(rt; answer_for(&file), expected);
     }
     Ok(())
 }
@@ -93,41 +76,26 @@ fn a_register_record_with_a_letter_put_in(rt: HostRuntime) -> Result<(), Fail> {
     for at in 0..32 {
         let mut file = good;
         file[32 + at] = 120;
-        if at == 0 {
-            assert_eq!(rt;
-                answer_for(&file),
-                Answer::Opened {
-                    registers: 1,
-                    entry: 13,
-                }
-            );
-        } else if at >= 8 && at <= 11 {
-            assert_eq!(rt;
-                answer_for(&file),
-                Answer::Opened {
-                    registers: 2,
-                    entry: 0,
-                }
-            );
-        } else {
-            assert_eq!(rt;
-                answer_for(&file),
-                Answer::Refused {
-                    number: 13,
-                    record: Some(1),
-                }
-            );
-        }
+        let expected = match at {
+            0 => REGISTERS_END,
+            8..=11 => AS_MADE,
+            _ => RECORD_1_MALFORMED,
+        };
+        assert_eq!(rt; answer_for(&file), expected);
     }
     Ok(())
 }
 
 // What the pair is refused with when the top bit of each of its bytes is turned: the kind, the zero bytes, the two
 // registers, min (3 where it is out of limits or above max), max (the two low bytes still give a lawful one), zeros.
-const PAIR_ANSWERS: [u32; 32] = [
-    13, 13, 13, 13, 2, 2, 2, 2, 2, 2, 2, 2, 3, 3, 3, 3, 3, 3, 0, 0, 13, 13, 13, 13, 13, 13, 13, 13,
-    13, 13, 13, 13,
-];
+fn pair_refused(at: usize) -> Option<u32> {
+    match at {
+        4..=11 => Some(2),
+        12..=17 => Some(3),
+        18 | 19 => None,
+        _ => Some(13),
+    }
+}
 
 #[test]
 fn a_pair_record_with_a_bit_turned(rt: HostRuntime) -> Result<(), Fail> {
@@ -135,13 +103,11 @@ fn a_pair_record_with_a_bit_turned(rt: HostRuntime) -> Result<(), Fail> {
     for at in 0..32 {
         let mut file = good;
         file[64 + at] ^= 128;
-        assert_eq!(rt;
-            answer_for(&file),
-            Answer::Opened {
-                registers: 2,
-                entry: PAIR_ANSWERS[at],
-            }
-        );
+        let expected = Ok(Opened {
+            registers: 2,
+            entry: pair_refused(at),
+        });
+        assert_eq!(rt; answer_for(&file), expected);
     }
     Ok(())
 }
@@ -152,18 +118,15 @@ const MISSING: [u8; 4] = [128, 0, 0, 0];
 // A pair with a missing delay is 14; with a register that is not there too, 2; and malformed besides, 13.
 fn check_missing(rt: &impl Abort, with_mark: [u8; 96]) {
     let mut file = with_mark;
-    assert_eq!(rt; first_refusal(&file), 14);
+    assert_eq!(rt; first_refusal(&file), Some(14));
     file[71] = 2;
-    assert_eq!(rt; first_refusal(&file), 2);
+    assert_eq!(rt; first_refusal(&file), Some(2));
     file[95] = 1;
-    assert_eq!(rt; first_refusal(&file), 13);
+    assert_eq!(rt; first_refusal(&file), Some(13));
 }
 
-fn first_refusal(file: &[u8; 96]) -> u32 {
-    match FileView::open(file) {
-        Ok(view) => first_entry(&view),
-        Err(_) => 0,
-    }
+fn first_refusal(file: &[u8; 96]) -> Option<u32> {
+    answer_for(file).ok()?.entry
 }
 
 #[test]

@@ -21,10 +21,7 @@ fn registers_file(heap: Global, count: u32) -> Result<Vec<u8>, AllocError> {
 
 // Why a file does not open.
 fn refusal(file: &[u8]) -> Option<Fault> {
-    match FileView::open(file) {
-        Ok(_) => None,
-        Err(fault) => Some(fault),
-    }
+    FileView::open(file).err()
 }
 
 #[test]

@@ -4,120 +4,62 @@ use timing::limits::MISSING_DELAY;
 use timing::pair::Pair;
 use timing::refusal::{Part, Refusal};
 
-// The number that a pair of two registers is refused with, or 0.
-fn refusal_number(pair: Pair, registers: u32) -> u32 {
-    match pair.validate(registers) {
-        Ok(_) => 0,
-        Err(refusal) => refusal.number(),
+// The number that a pair of so many registers is refused with, if it is.
+fn refusal_number(pair: Pair, registers: u32) -> Option<u32> {
+    pair.validate(registers)
+        .err()
+        .map(|refusal| refusal.number())
+}
+
+fn pair(launch: u32, capture: u32, min: i32, max: i32) -> Pair {
+    Pair {
+        launch,
+        capture,
+        min,
+        max,
     }
 }
 
 #[test]
 fn delays_at_their_limits(rt: HostRuntime) {
     let cases = [
-        (1_000_000, 1_000_000, 0),
-        (0, 1_000_001, 3),
-        (-1_000_000, -1_000_000, 0),
-        (-1_000_001, 0, 3),
-        (5, 5, 0),
-        (6, 5, 3),
-        (-1_000_000, 1_000_000, 0),
-        (MISSING_DELAY, 5, 14),
-        (5, MISSING_DELAY, 14),
-        (MISSING_DELAY, MISSING_DELAY, 14),
-        (MISSING_DELAY, 2_000_000, 14),
-        (2_000_000, MISSING_DELAY, 14),
-        (-2_147_483_647, 0, 3),
-        (0, 2_147_483_647, 3),
+        (1_000_000, 1_000_000, None),
+        (0, 1_000_001, Some(3)),
+        (-1_000_000, -1_000_000, None),
+        (-1_000_001, 0, Some(3)),
+        (5, 5, None),
+        (6, 5, Some(3)),
+        (-1_000_000, 1_000_000, None),
+        (MISSING_DELAY, 5, Some(14)),
+        (5, MISSING_DELAY, Some(14)),
+        (MISSING_DELAY, MISSING_DELAY, Some(14)),
+        (MISSING_DELAY, 2_000_000, Some(14)),
+        (2_000_000, MISSING_DELAY, Some(14)),
+        (-2_147_483_647, 0, Some(3)),
+        (0, 2_147_483_647, Some(3)),
     ];
     for (min, max, number) in cases {
-        assert_eq!(rt;
-            refusal_number(
-                Pair {
-                    launch: 0,
-                    capture: 1,
-                    min,
-                    max,
-                },
-                2,
-            ),
-            number
-        );
+        assert_eq!(rt; refusal_number(pair(0, 1, min, max), 2), number);
     }
 }
 
 #[test]
 fn a_register_is_checked_before_the_delays(rt: HostRuntime) {
-    assert_eq!(rt;
-        refusal_number(
-            Pair {
-                launch: 2,
-                capture: 0,
-                min: MISSING_DELAY,
-                max: 9,
-            },
-            2,
-        ),
-        2
-    );
-    assert_eq!(rt;
-        refusal_number(
-            Pair {
-                launch: 0,
-                capture: 2,
-                min: 9,
-                max: 1,
-            },
-            2,
-        ),
-        2
-    );
-    assert_eq!(rt;
-        refusal_number(
-            Pair {
-                launch: 1,
-                capture: 1,
-                min: 0,
-                max: 0,
-            },
-            2,
-        ),
-        0
-    );
-    assert_eq!(rt;
-        refusal_number(
-            Pair {
-                launch: 4_294_967_295,
-                capture: 0,
-                min: 0,
-                max: 0,
-            },
-            4096,
-        ),
-        2
-    );
-    assert_eq!(rt;
-        refusal_number(
-            Pair {
-                launch: 0,
-                capture: 0,
-                min: 0,
-                max: 0,
-            },
-            0,
-        ),
-        2
-    );
+    let cases = [
+        (pair(2, 0, MISSING_DELAY, 9), 2, Some(2)),
+        (pair(0, 2, 9, 1), 2, Some(2)),
+        (pair(1, 1, 0, 0), 2, None),
+        (pair(4_294_967_295, 0, 0, 0), 4096, Some(2)),
+        (pair(0, 0, 0, 0), 0, Some(2)),
+    ];
+    for (pair, registers, number) in cases {
+        assert_eq!(rt; refusal_number(pair, registers), number);
+    }
 }
 
 #[test]
 fn slack_of_a_pair(rt: HostRuntime) {
-    let pair = Pair {
-        launch: 0,
-        capture: 1,
-        min: 2,
-        max: 6,
-    };
+    let pair = pair(0, 1, 2, 6);
     assert_eq!(rt; pair.setup_slack(4, 0, 2), 0);
     assert_eq!(rt; pair.setup_slack(4, 0, 1), -1);
     assert_eq!(rt; pair.setup_slack(10, 3, 0), 1);

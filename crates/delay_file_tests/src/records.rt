@@ -21,12 +21,9 @@ fn reads_back(number: u32, name: &[u8]) -> bool {
     }
 }
 
-// The number that a record is refused with, or 0.
-fn refusal_number(record: &[u8]) -> u32 {
-    match decode(record, 7) {
-        Ok(_) => 0,
-        Err(fault) => fault.refusal.number(),
-    }
+// The number that a record is refused with, if it is.
+fn refusal_number(record: &[u8]) -> Option<u32> {
+    decode(record, 7).err().map(|fault| fault.refusal.number())
 }
 
 #[test]
@@ -47,14 +44,14 @@ fn name_bytes_in_a_record(rt: HostRuntime) -> Result<(), Fail> {
         return Err(Fail::new("ab is a name"));
     };
     for (at, byte, number) in [
-        (8, 32, 13),
-        (8, 33, 0),
-        (9, 126, 0),
-        (9, 127, 13),
-        (8, 0, 13),
-        (10, 97, 0),
-        (11, 97, 13),
-        (31, 97, 13),
+        (8, 32, Some(13)),
+        (8, 33, None),
+        (9, 126, None),
+        (9, 127, Some(13)),
+        (8, 0, Some(13)),
+        (10, 97, None),
+        (11, 97, Some(13)),
+        (31, 97, Some(13)),
     ] {
         let mut record = good;
         record[at] = byte;
@@ -117,8 +114,8 @@ fn a_part_of_another_length_is_no_record(rt: HostRuntime) {
         min: 2,
         max: 6,
     });
-    assert_eq!(rt; refusal_number(&record[0..31]), 12);
-    assert_eq!(rt; refusal_number(&[]), 12);
-    assert_eq!(rt; refusal_number(&[0; 33]), 12);
-    assert_eq!(rt; refusal_number(&[0; 32]), 13);
+    assert_eq!(rt; refusal_number(&record[0..31]), Some(12));
+    assert_eq!(rt; refusal_number(&[]), Some(12));
+    assert_eq!(rt; refusal_number(&[0; 33]), Some(12));
+    assert_eq!(rt; refusal_number(&[0; 32]), Some(13));
 }
