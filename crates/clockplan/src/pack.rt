@@ -53,6 +53,7 @@ fn write_file(rt: &HostRuntime, path: &str, bytes: &[u8]) -> anyhow::Result<Outc
 
 fn tell_faulty(rt: &HostRuntime, view: &FileView<'_>) -> anyhow::Result<Outcome> {
     let mut out = String::new(rt.alloc());
+    // Every line can fail, so a chain would be no plainer.
     for place in 0..view.entry_count() {
         if let Err(fault) = view.pair(place) {
             show_faulty(view, record_of(view, place), fault, &mut out)?;

@@ -47,6 +47,7 @@ fn show_opened(view: &FileView<'_>, out: &mut String) -> anyhow::Result<usize>
     ensures { IfOk result (λ n. n ≡ faulty_count (view_meaning view.now).entries) }
 {
     let registers = view.registers();
+    // Every line can fail, so a chain would be no plainer.
     for number in 0..registers {
         let register = ShownRegister::named(view, number);
         writeln!(out, "record {number}: register {register}")?;
@@ -65,6 +66,7 @@ fn show_entries(view: &FileView<'_>, out: &mut String) -> anyhow::Result<usize>
     ensures { IfOk result (λ n. n ≡ faulty_count (view_meaning view.now).entries) }
 {
     let mut faults: usize = 0;
+    // Every line can fail, so no chain counts the entries that it shows.
     for place in 0..view.entry_count() {
         if show_entry(view, place, out)? {
             faults += 1;

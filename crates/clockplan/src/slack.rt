@@ -71,6 +71,7 @@ fn tell_total(spares: &[Spare], broken: usize, out: &mut String) -> anyhow::Resu
 // What every entry has to spare, the tightest first.
 fn sorted_spares(heap: Global, planned: &Planned<'_>) -> Result<Vec<Spare>, AllocError> {
     let mut spares = Vec::new(heap);
+    // Memory for each can run out, so a chain would be no plainer.
     for place in 0..planned.view.entry_count() {
         if let Ok(pair) = planned.view.entry(place) {
             spares.push(Spare {

@@ -19,7 +19,8 @@ pub(crate) fn i32_at(bytes: &[u8], at: usize) -> i32
     u32_at(bytes, at).cast_signed()
 }
 
-// The number in the four bytes from `at` on, if they are there.
+// The number in the four bytes from `at` on, if they are there. This and `word_at` differ in the width alone, and a trait
+// over the widths would hold the same two bodies.
 pub fn number_at(bytes: &[u8], at: usize) -> Option<u32>
     ensures { result ≡ (if nat_le (at + 4) (length bytes.now) then Some (be32 bytes.now at) else None) }
 {

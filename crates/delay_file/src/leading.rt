@@ -28,6 +28,7 @@ pub(crate) fn leading_registers(bytes: &[u8]) -> Result<usize, Fault>
     ensures { JudgedRun bytes.now result }
 {
     let count = bytes.len() / RECORD_BYTES;
+    // Any record can end this with a fault, so a search by a chain would be no plainer.
     for record in 0..count {
         if !is_register(bytes, record)? {
             return Ok(record);

@@ -77,6 +77,7 @@ fn ones_in_words(bytes: &[u8], registers: u32) -> Result<u32, Fault>
 {
     let words = word_count(registers);
     let mut late = 0;
+    // Any turn can end this with the record at fault, so a sum over a chain would be no plainer.
     for word in 0..words {
         let record = 1 + word;
         let Some(bits) = word_in(record_bytes(bytes, record), 64 * word as u32, registers) else {

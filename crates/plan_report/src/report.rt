@@ -55,6 +55,7 @@ fn push_registers(text: &mut Text<'_>, view: &FileView<'_>, draft: &Draft<'_>)
     requires room { HasRoom text.old (32 * view_registers view.now) }
     ensures { Pushes (register_lines view.now.bytes.now (view_registers view.now) draft.now.domains.now) text.old text.new }
 {
+    // Each line moves the end of the text, so a chain would be no plainer.
     for register in 0..view.registers() {
         push_register(text, view, register, draft.domain(register));
     }

@@ -12,7 +12,8 @@ use timing::pair::Pair;
 use timing::refusal::Refusal;
 
 impl Session {
-    // Puts a pair in: refused with 2, 14, 3, 4 and 6.
+    // Puts a pair in: refused with 2, 14, 3, 4 and 6. (Each edit says by name what it answers, what is then in force and what
+    // stays; one record of the three would hide which is which.)
     pub fn add(&mut self, pair: Pair) -> Result<(), Refusal>
         ensures answer { told result ≡ add_answer (book self.old) pair }
         ensures next { Leaves self.old self.new result (added (book self.old) pair) }

@@ -29,7 +29,8 @@ impl Session {
     }
 }
 
-// Puts the record of a pair into its place.
+// Puts the record of a pair into its place. Plan files have their own: shared, it would be public and require the room, and
+// no public function here requires anything.
 fn put_pair(out: &mut [u8], place: usize, pair: Pair)
     requires { place * 32 + 32 ≤ length out.old }
     ensures { out.new ≡ take (place * 32) out.old ++ (pair_bytes pair ++ drop (place * 32 + 32) out.old) }

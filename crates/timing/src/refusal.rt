@@ -14,6 +14,7 @@ pub enum Part {
 }
 
 impl Part {
+    // The part's number. A name says which number it is, where `u32::from` would not.
     pub fn number(self) -> u32
         ensures { result ≡ part_number self }
     {
@@ -57,7 +58,8 @@ pub enum Refusal {
 }
 
 impl Refusal {
-    // The row's number, by which a refusal is known outside the library.
+    // The row's number, by which a refusal is known outside the library. A name says which number it is, where `u32::from`
+    // would not.
     pub fn number(self) -> u32
         ensures { result ≡ refusal_number self }
     {

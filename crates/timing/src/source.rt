@@ -10,7 +10,8 @@ use crate::refusal::Refusal;
 pub trait DelaySource {
     ghost meaning: { Self → Meaning };
 
-    // How many registers there are. That the whole meaning is lawful is promised here, since every call asks this.
+    // How many registers there are. That the whole meaning is lawful is promised here, since every call asks this; as a law
+    // of the trait it would be no plainer, for the proof that each source owes would have to stand among its specs.
     fn register_count(&self) -> u32
         ensures value { result ≡ (meaning self.now).registers }
         ensures lawful { LawfulMeaning (meaning self.now) };
