@@ -80,9 +80,9 @@ fn ones_in_words(bytes: &[u8], registers: u32) -> Result<u32, Fault>
     // Any turn can end this with the record at fault, so a sum over a chain would be no plainer.
     for word in 0..words {
         let record = 1 + word;
-        let Some(bits) = word_in(record_bytes(bytes, record), 64 * word as u32, registers) else {
-            return Err(Fault::at(Refusal::MalformedRecord, record));
-        };
+        let bits = word_in(record_bytes(bytes, record), 64 * word as u32, registers).ok_or(
+            Fault::at(Refusal::MalformedRecord, record),
+        )?;
         late += bits.count_ones();
     }
     if bytes.len() / RECORD_BYTES > 1 + words {
