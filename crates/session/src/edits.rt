@@ -1,4 +1,4 @@
-ghost use Rattle.std.specs.Prelude.{◌≡◌, ◌<◌, true, is_some, IfSome, position, slice_index_or};
+ghost use Rattle.std.specs.Prelude.{◌≡◌, ◌-◌, ◌<◌, min, true, is_some, IfSome, position, slice_index_or, vec_len};
 ghost use Rattle.session.specs.Book.{Leaves, Stays, add_answer, added, book, ceiled, ceiling_answer, drop_answer, dropped, has, kept, pin_answer, pin_byte, pinned, retime_answer, retimed};
 ghost use Rattle.session.specs.Pairs.{joins};
 ghost use Rattle.timing.specs.Domains.{domain_byte};
@@ -23,7 +23,7 @@ impl Session {
         if self.place(pair.launch, pair.capture).is_some() {
             return Err(Refusal::PairPresent);
         }
-        if self.used >= MAX_ENTRIES || self.used >= self.pairs.len() {
+        if self.spare() == 0 {
             return Err(Refusal::TooManyEntries);
         }
         self.put(pair);
@@ -111,6 +111,13 @@ impl Session {
     {
         self.pairs[self.used] = pair;
         self.used += 1;
+    }
+
+    // How many pairs more can be kept.
+    pub(crate) fn spare(&self) -> usize
+        ensures { result ≡ min (vec_len self.now.pairs) 16384 - self.now.used }
+    {
+        self.pairs.len().min(MAX_ENTRIES) - self.used
     }
 
     // Where the pair between two registers is kept.

@@ -12,7 +12,6 @@ use crate::Session;
 use crate::order::Order;
 use delay_file::fault::Fault;
 use delay_file::view::FileView;
-use timing::limits::MAX_ENTRIES;
 use timing::pair::Pair;
 use timing::refusal::Refusal;
 use timing::source::DelaySource;
@@ -86,8 +85,7 @@ impl Session {
         if self.place(turn.pair.launch, turn.pair.capture).is_some() || turn.repeats() {
             return Err(turn.fault(Refusal::PairPresent));
         }
-        let spare = self.pairs.len().min(MAX_ENTRIES) - self.used;
-        if spare <= turn.place {
+        if self.spare() <= turn.place {
             return Err(turn.fault(Refusal::TooManyEntries));
         }
         Ok(())

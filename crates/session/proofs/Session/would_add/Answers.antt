@@ -26,7 +26,7 @@ returns-then-spare-turn c =
     let s = c.args.self.now in
     let t = c.args.turn.now in
     let l : judged s.registers t.pair ≡ pair t.pair = ap (λ n. judged n t.pair) (sym c.requires.same) ∙ t.lawful in
-    let h : min s.pairs.len 16384 - s.used ≤ t.place = omega (arith, c.if-spare-turn.true, c.min.ensures, c.len.ensures) in
+    let h : min s.pairs.len 16384 - s.used ≤ t.place = omega (arith, c.if-spare-turn.true, c.spare.ensures) in
     stops_with _ _ _ c.fault-then-spare-turn.ensures
     (turn_full (book s) (given_pairs t.view) t.place t.pair (omega (arith, t.within)) l (sym c.repeats.ensures ∙ c.if-repeats.false) (sym c.place.ensures.found ∙ sym c.is_some.ensures ∙ c.if-is_some.false) (none_spare s.pairs.len s.used t.place h))
 
@@ -36,4 +36,4 @@ returns c =
     let t = c.args.turn.now in
     let l : judged s.registers t.pair ≡ pair t.pair = ap (λ n. judged n t.pair) (sym c.requires.same) ∙ t.lawful in
     turn_taken (book s) (given_pairs t.view) t.place t.pair (omega (arith, t.within)) l (sym c.repeats.ensures ∙ c.if-repeats.false) (sym c.place.ensures.found ∙ sym c.is_some.ensures ∙ c.if-is_some.false)
-    (omega (arith, c.if-spare-turn.false, c.min.ensures)) (omega (arith, c.if-spare-turn.false, c.min.ensures, c.len.ensures))
+    (omega (arith, c.if-spare-turn.false, c.spare.ensures)) (omega (arith, c.if-spare-turn.false, c.spare.ensures))
