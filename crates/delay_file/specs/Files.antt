@@ -1,5 +1,5 @@
 -- A whole delay file: for every byte string, of any length and content, what it means or why it is refused.
-use Rattle.std.specs.Prelude.{◌≡◌, ℕ, ◌+◌, ◌-◌, ◌*◌, ◌/◌, ◌%◌, ◌<◌, Bool, true, false, cond, ◌&&◌, List, [], ◌∷◌, ◌++◌, map, length, take, drop, Some, None, Ok, Err, Option, Result, ◌==◌, nat_le, nat_lt, slice_index}
+use Rattle.std.specs.Prelude.{◌≡◌, ℕ, ◌+◌, ◌-◌, ◌*◌, ◌/◌, ◌%◌, ◌<◌, Bool, true, false, if◌then◌else◌, ◌&&◌, List, [], ◌∷◌, ◌++◌, map, length, take, drop, Some, None, Ok, Err, Option, Result, ◌==◌, nat_le, nat_lt, slice_index}
 use Rattle.std.specs.List.{range_with_len, prefix_len}
 use Rattle.timing.specs.Meaning.{Entry, pair, faulty, Meaning, entry_at, judged}
 use Rattle.timing.specs.Table.{refusal_number}
@@ -57,15 +57,15 @@ pub data Opening : Type 0 where
 
 -- a register count from 1 to 4,096 opens the file; any other is refused with 1
 abbrev pub counted : List ℕ → ℕ → Opening
-counted bytes n = cond (nat_le 1 n && nat_le n 4096) (opened (file_meaning bytes n)) (closed 1 None)
+counted bytes n = if nat_le 1 n && nat_le n 4096 then opened (file_meaning bytes n) else closed 1 None
 
 -- Opening checks the length, 12; then each register record at the start, 13 at the first that is none of its number;
 -- then the register count, 1.
 abbrev pub opening : List ℕ → Opening
 opening bytes =
-    cond (length bytes % 32 == 0)
-    (cond (broken_run bytes (register_run bytes)) (closed 13 (Some (register_run bytes))) (counted bytes (register_run bytes)))
-    (closed 12 None)
+    if length bytes % 32 == 0
+    then (if broken_run bytes (register_run bytes) then closed 13 (Some (register_run bytes)) else counted bytes (register_run bytes))
+    else closed 12 None
 
 -- the register count of a view, which is from 1 to 4,096
 abbrev pub view_registers : FileView → ℕ
@@ -76,11 +76,11 @@ view_meaning v = file_meaning v.bytes.now (view_registers v)
 
 -- what a view answers for record k
 abbrev pub record_answer : FileView → ℕ → Reading
-record_answer v k = cond (nat_lt k (record_count v.bytes.now)) (reading k (record_at v.bytes.now k)) (refused 5 None)
+record_answer v k = if nat_lt k (record_count v.bytes.now) then reading k (record_at v.bytes.now k) else refused 5 None
 
 -- the name of a register
 abbrev pub register_name : FileView → ℕ → Option (List ℕ)
-register_name v r = cond (nat_lt r (view_registers v)) (name_of (record_answer v r)) None
+register_name v r = if nat_lt r (view_registers v) then name_of (record_answer v r) else None
 
 -- an entry with the record that it stands in
 abbrev pub located : ℕ → Entry → Reading
@@ -90,7 +90,7 @@ located k (faulty number) = refused number (Some k)
 -- what a view answers for the entry at a place, with its record: the registers come first
 abbrev pub entry_answer : FileView → ℕ → Reading
 entry_answer v place =
-    cond (nat_lt place (length (view_meaning v).entries)) (located (view_registers v + place) (entry_at (view_meaning v) place)) (refused 5 None)
+    if nat_lt place (length (view_meaning v).entries) then located (view_registers v + place) (entry_at (view_meaning v) place) else refused 5 None
 
 -- The record of the entry at a place has these two registers in its fields, whatever else is wrong with it.
 pub record JoinsAt (v : FileView) (place launch capture : ℕ) : Type 0 where
@@ -144,6 +144,6 @@ pub data Writing : Type 0 where
 -- 1 for the number of names, then 13 at the first that no register may have
 abbrev pub writing : List (List ℕ) → List Pair → Writing
 writing names pairs =
-    cond (nat_le 1 (length names) && nat_le (length names) 4096)
-    (cond (prefix_len lawful_name names == length names) (written_as (file_bytes names pairs)) (unwritten 13 (Some (prefix_len lawful_name names))))
-    (unwritten 1 None)
+    if nat_le 1 (length names) && nat_le (length names) 4096
+    then (if prefix_len lawful_name names == length names then written_as (file_bytes names pairs) else unwritten 13 (Some (prefix_len lawful_name names)))
+    else unwritten 1 None

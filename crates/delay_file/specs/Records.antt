@@ -1,5 +1,5 @@
 -- A record of a delay file: what 32 bytes read as, and which bytes a register or a pair is written as.
-use Rattle.std.specs.Prelude.{◌≡◌, ℕ, ◌-◌, Bool, true, cond, ◌&&◌, List, ◌∷◌, ◌++◌, length, take, drop, replicate, Some, None, Ok, Err, Option, Result, ◌==◌, nat_le, slice_index}
+use Rattle.std.specs.Prelude.{◌≡◌, ℕ, ◌-◌, Bool, true, if◌then◌else◌, ◌&&◌, List, ◌∷◌, ◌++◌, length, take, drop, replicate, Some, None, Ok, Err, Option, Result, ◌==◌, nat_le, slice_index}
 use Rattle.std.specs.Borrow.{Bor}
 use Rattle.std.specs.List.{prefix_len}
 use Rattle.timing.specs.declared.pair.Pair.{Pair}
@@ -42,20 +42,20 @@ pair_fields xs = record { launch = be32 xs 4; capture = be32 xs 8; min = be_z xs
 -- (A record of a file always has 32 bytes; a part of another length is no whole record, 12.)
 abbrev pub reading : ℕ → List ℕ → Reading
 reading k xs =
-    cond (length xs == 32)
-    (cond (starts 1 xs && lawful_field (drop 8 xs)) (register (be32 xs 4) (name_in (drop 8 xs)))
-    (cond (starts 2 xs && every is_zero (drop 20 xs)) (delay (pair_fields xs)) (refused 13 (Some k))))
-    (refused 12 (Some k))
+    if length xs == 32
+    then (if starts 1 xs && lawful_field (drop 8 xs) then register (be32 xs 4) (name_in (drop 8 xs))
+    else (if starts 2 xs && every is_zero (drop 20 xs) then delay (pair_fields xs) else refused 13 (Some k)))
+    else refused 12 (Some k)
 
 -- the same of the bytes after the kind and the three zero bytes, for each kind
 abbrev pub register_rest : ℕ → List ℕ → Reading
-register_rest k rest = cond (lawful_field (drop 4 rest)) (register (be32 rest 0) (name_in (drop 4 rest))) (refused 13 (Some k))
+register_rest k rest = if lawful_field (drop 4 rest) then register (be32 rest 0) (name_in (drop 4 rest)) else refused 13 (Some k)
 
 abbrev pub pair_rest : ℕ → List ℕ → Reading
 pair_rest k rest =
-    cond (every is_zero (drop 16 rest))
-    (delay (record { launch = be32 rest 0; capture = be32 rest 4; min = be_z rest 8; max = be_z rest 12 }))
-    (refused 13 (Some k))
+    if every is_zero (drop 16 rest)
+    then delay (record { launch = be32 rest 0; capture = be32 rest 4; min = be_z rest 8; max = be_z rest 12 })
+    else refused 13 (Some k)
 
 -- a fault of the code as a reading
 abbrev pub fault_seen : Fault → Reading
@@ -96,7 +96,7 @@ ReadsBack p = (k : ℕ) → reading k (pair_bytes p) ≡ delay p
 
 -- the register record of a number and a name, if the name is lawful
 abbrev pub written : ℕ → List ℕ → Result (List ℕ) Refusal
-written number name = cond (lawful_name name) (Ok (register_bytes number name)) (Err MalformedRecord)
+written number name = if lawful_name name then Ok (register_bytes number name) else Err MalformedRecord
 
 -- The format has one spelling: bytes that read as a register or a pair are the ones that writing it gives.
 abbrev pub Spelled : List ℕ → Reading → Type 0

@@ -25,12 +25,12 @@ impl Fault {
     }
 
     // One record is at fault.
-    pub fn at(refusal: Refusal, record: usize) -> Fault
-        ensures { result ≡ record { refusal = refusal; «record» = Some «record» } }
+    pub fn at(refusal: Refusal, number: usize) -> Fault
+        ensures { result ≡ record { refusal = refusal; «record» = Some number } }
     {
         Fault {
             refusal,
-            record: Some(record),
+            record: Some(number),
         }
     }
 }

@@ -1,5 +1,5 @@
 -- Drafts: which domain and which clock time a register has, and the first limit that a draft breaks.
-use Rattle.std.specs.Prelude.{ℕ, zero, suc, ◌+◌, ◌-◌, Bool, true, false, cond, ◌&&◌, List, [], ◌∷◌, length, ℤ, ◌==◌, nat_le, slice_index_or}
+use Rattle.std.specs.Prelude.{ℕ, zero, suc, ◌+◌, ◌-◌, Bool, true, false, if◌then◌else◌, ◌&&◌, List, [], ◌∷◌, length, ℤ, ◌==◌, nat_le, slice_index_or}
 use Rattle.std.specs.List.{range_with_len}
 use Rattle.timing.specs.Delays.{slack}
 use Rattle.timing.specs.Meaning.{Entry, pair, faulty, Meaning, entry_at}
@@ -42,13 +42,13 @@ entries_from T time k (faulty number ∷ es) = entries_from T time (k + 1) es
 
 -- whether a domain is the one that a pin byte asks for: 0 early, 1 late, any other asks for none
 abbrev pub pin_met : ℕ → Domain → Bool
-pin_met byte Early = cond (byte == 1) false true
-pin_met byte Late = cond (byte == 0) false true
+pin_met byte Early = if byte == 1 then false else true
+pin_met byte Late = if byte == 0 then false else true
 
 -- the pins of these registers, then the rest
 abbrev pub pins_from : List ℕ → List ℕ → List ℕ → Verdict → Verdict
 pins_from pins ds [] rest = rest
-pins_from pins ds (r ∷ rs) rest = cond (pin_met (slice_index_or pins r 2) (domains_of ds r)) (pins_from pins ds rs rest) (broken Pin r 0)
+pins_from pins ds (r ∷ rs) rest = if pin_met (slice_index_or pins r 2) (domains_of ds r) then pins_from pins ds rs rest else broken Pin r 0
 
 -- the ceiling, then the pins by register, then the entries by place
 abbrev pub verdict : Meaning → List ℕ → ℕ → ℕ → ℕ → List ℕ → Verdict

@@ -1,5 +1,5 @@
 -- Reading a plan file: for every byte string, of any length and content, the plan that it holds or why it is refused.
-use Rattle.std.specs.Prelude.{ℕ, zero, suc, ◌+◌, ◌-◌, ◌*◌, ◌/◌, ◌%◌, ◌^◌, Bool, cond, ◌&&◌, List, map, length, drop, Some, None, Option, ◌==◌, count_ones, nat_le, nat_lt, slice_index}
+use Rattle.std.specs.Prelude.{ℕ, zero, suc, ◌+◌, ◌-◌, ◌*◌, ◌/◌, ◌%◌, ◌^◌, Bool, if◌then◌else◌, ◌&&◌, List, map, length, drop, Some, None, Option, ◌==◌, count_ones, nat_le, nat_lt, slice_index}
 use Rattle.std.specs.List.{range_with_len, prefix_len}
 use Rattle.timing.specs.Outcomes.{period_within, offset_within}
 use Rattle.delay_file.specs.Bytes.{be32, every, is_zero}
@@ -53,18 +53,18 @@ pub data PlanReading : Type 0 where
 -- The records are right one by one: 13 at record 0 where the late number is not the ones in the words, then 9.
 abbrev pub words_reading : List ℕ → List ℕ → ℕ → ℕ → PlanReading
 words_reading bytes head n room =
-    cond (be32 head 16 == ones_in bytes (word_count n))
-    (cond (nat_le n room) (plan (be32 head 4) (be32 head 8) n (map (domain_bit bytes) (range_with_len 0 n))) (refused 9 None))
-    (refused 13 (Some 0))
+    if be32 head 16 == ones_in bytes (word_count n)
+    then (if nat_le n room then plan (be32 head 4) (be32 head 8) n (map (domain_bit bytes) (range_with_len 0 n)) else refused 9 None)
+    else refused 13 (Some 0)
 
 -- 13 at the first word that is not as it should be, which is the record count where one lacks, or at an extra record
 abbrev pub head_reading : List ℕ → List ℕ → ℕ → ℕ → PlanReading
 head_reading bytes head n room =
-    cond (words_good bytes n) (words_reading bytes head n room) (refused 13 (Some (1 + good_words bytes n)))
+    if words_good bytes n then words_reading bytes head n room else refused 13 (Some (1 + good_words bytes n))
 
 -- The answer of reading a file into memory of a length: 12, then 13 at the head or later, then 9.
 abbrev pub plan_reading : List ℕ → ℕ → PlanReading
 plan_reading bytes room =
-    cond (length bytes % 32 == 0)
-    (cond (head_good (record_at bytes 0)) (head_reading bytes (record_at bytes 0) (be32 (record_at bytes 0) 12) room) (refused 13 (Some 0)))
-    (refused 12 None)
+    if length bytes % 32 == 0
+    then (if head_good (record_at bytes 0) then head_reading bytes (record_at bytes 0) (be32 (record_at bytes 0) 12) room else refused 13 (Some 0))
+    else refused 12 None

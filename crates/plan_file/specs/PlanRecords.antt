@@ -1,5 +1,5 @@
 -- The records of a plan file: a head, and a word of domains for each 64 registers.
-use Rattle.std.specs.Prelude.{ℕ, zero, suc, ◌+◌, ◌*◌, ◌/◌, ◌%◌, ◌^◌, Bool, cond, ◌&&◌, List, [], ◌∷◌, ◌++◌, map, replicate, ◌==◌, count_ones, nat_lt, slice_index}
+use Rattle.std.specs.Prelude.{ℕ, zero, suc, ◌+◌, ◌*◌, ◌/◌, ◌%◌, ◌^◌, Bool, if◌then◌else◌, ◌&&◌, List, [], ◌∷◌, ◌++◌, map, replicate, ◌==◌, count_ones, nat_lt, slice_index}
 use Rattle.std.specs.List.{count_by, range_with_len}
 use Rattle.delay_file.specs.Bytes.{bytes_of}
 use Rattle.delay_file.specs.Files.{joined}
@@ -9,7 +9,7 @@ abbrev pub late_at : ℕ → List ℕ → ℕ → Bool
 late_at n ds r = nat_lt r n && slice_index ds r == 1
 
 abbrev pub bit : Bool → ℕ
-bit b = cond b 1 0
+bit b = if b then 1 else 0
 
 -- the number whose bit i, 0 the least, is f i, for each i below k
 unfoldable pub packed : (ℕ → Bool) → ℕ → ℕ

@@ -1,5 +1,5 @@
 -- The report of a draft: a line with its numbers, then a line for each register by its name. Every line ends with byte 10.
-use Rattle.std.specs.Prelude.{ℕ, ◌+◌, ◌*◌, Bool, cond, ◌&&◌, List, [], ◌∷◌, ◌++◌, map, length, drop, None, codes, decimal, Option, nat_le}
+use Rattle.std.specs.Prelude.{ℕ, ◌+◌, ◌*◌, Bool, if◌then◌else◌, ◌&&◌, List, [], ◌∷◌, ◌++◌, map, length, drop, None, codes, decimal, Option, nat_le}
 use Rattle.std.specs.List.{range_with_len}
 use Rattle.timing.specs.Outcomes.{period_within, offset_within}
 use Rattle.timing.specs.Plans.{domains_of}
@@ -42,7 +42,7 @@ pub data Reported : Type 0 where
 
 -- a check in a row of checks: where it fails the report is refused with a number
 abbrev pub unless : Bool → ℕ → Reported → Reported
-unless ok number rest = cond ok rest (refused number None)
+unless ok number rest = if ok then rest else refused number None
 
 -- the answer for an opened file of n registers: 8, 7, 9 (domain memory or the memory for the text)
 abbrev pub report_of : List ℕ → ℕ → ℕ → ℕ → List ℕ → ℕ → Reported

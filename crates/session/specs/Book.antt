@@ -1,6 +1,6 @@
 -- The session book: what a session is to its users. It says what every edit must answer and what is then in force; the
 -- order in which pairs are kept is no part of it.
-use Rattle.std.specs.Prelude.{◌≡◌, ℕ, ◌+◌, ◌-◌, Bool, cond, not, ◌&&◌, ◌||◌, List, [], length, take, drop, replicate, is_some, Some, None, Ok, Err, vec_items, vec_len, Option, Result, ◌==◌, nat_le, slice_set}
+use Rattle.std.specs.Prelude.{◌≡◌, ℕ, ◌+◌, ◌-◌, Bool, if◌then◌else◌, not, ◌&&◌, ◌||◌, List, [], length, take, drop, replicate, is_some, Some, None, Ok, Err, vec_items, vec_len, Option, Result, ◌==◌, nat_le, slice_set}
 use Rattle.timing.specs.Meaning.{Entry, pair, faulty, judged}
 use Rattle.timing.specs.Outcomes.{Outcome, granted, refused, told, unless, offset_within}
 use Rattle.timing.specs.Domains.{domain_byte}
@@ -55,7 +55,7 @@ added b p =
     record {
       registers = b.registers;
       places = b.places;
-      at = λ x y. cond (joins p x y) (Some p) (b.at x y);
+      at = λ x y. if joins p x y then Some p else b.at x y;
       count = b.count + 1;
       pins = b.pins;
       ceiling = b.ceiling;
@@ -70,7 +70,7 @@ retimed b p =
     record {
       registers = b.registers;
       places = b.places;
-      at = λ x y. cond (joins p x y) (Some p) (b.at x y);
+      at = λ x y. if joins p x y then Some p else b.at x y;
       count = b.count;
       pins = b.pins;
       ceiling = b.ceiling;
@@ -85,7 +85,7 @@ dropped b x y =
     record {
       registers = b.registers;
       places = b.places;
-      at = λ v w. cond (v == x && w == y) None (b.at v w);
+      at = λ v w. if v == x && w == y then None else b.at v w;
       count = b.count - 1;
       pins = b.pins;
       ceiling = b.ceiling;

@@ -1,5 +1,5 @@
 -- Loading a delay file into a session: every pair in the file's order, or none.
-use Rattle.std.specs.Prelude.{ℕ, ◌+◌, ◌-◌, cond, List, [], ◌∷◌, map, Some, None, Ok, Err, Option, Result, ◌==◌}
+use Rattle.std.specs.Prelude.{ℕ, ◌+◌, ◌-◌, if◌then◌else◌, List, [], ◌∷◌, map, Some, None, Ok, Err, Option, Result, ◌==◌}
 use Rattle.timing.specs.Meaning.{Entry, pair, faulty}
 use Rattle.timing.specs.Outcomes.{Outcome, granted, refused}
 use Rattle.timing.specs.Table.{refusal_number}
@@ -29,7 +29,7 @@ load_entries b k (pair p ∷ es) = by_add k (add_answer b p) (load_entries (adde
 
 -- a file with the session's register count, else 1; its entries stand behind its registers
 abbrev pub load_opened : Book → Opening → Loading
-load_opened b (opened m) = cond (m.registers == b.registers) (load_entries b m.registers m.entries) (stopped 1 None)
+load_opened b (opened m) = if m.registers == b.registers then load_entries b m.registers m.entries else stopped 1 None
 load_opened b (closed number at) = stopped number at
 
 -- the file's opening, then its register count, then its pairs

@@ -1,5 +1,5 @@
 -- What a source of delays means: how many registers there are, and a list of entries.
-use Rattle.std.specs.Prelude.{ℕ, Bool, true, false, cond, ◌&&◌, ◌||◌, List, Ok, Err, Result, int_le, nat_le, slice_index_or}
+use Rattle.std.specs.Prelude.{ℕ, Bool, true, false, if◌then◌else◌, ◌&&◌, ◌||◌, List, Ok, Err, Result, int_le, nat_le, slice_index_or}
 use Rattle.std.specs.List.{AllByRecursion}
 use Rattle.timing.specs.declared.pair.Pair.{Pair}
 use Rattle.timing.specs.declared.refusal.Refusal.{Refusal}
@@ -44,6 +44,6 @@ answered (Err f) = faulty (refusal_number f)
 -- missing, then 3 where a delay is out of limits or min is above max
 abbrev pub judged : ℕ → Pair → Entry
 judged n p =
-    cond (nat_le n p.launch || nat_le n p.capture) (faulty 2)
-    (cond (missing p.min || missing p.max) (faulty 14)
-    (cond (int_le least_delay p.min && (int_le p.min p.max && int_le p.max greatest_delay)) (pair p) (faulty 3)))
+    if nat_le n p.launch || nat_le n p.capture then faulty 2
+    else (if missing p.min || missing p.max then faulty 14
+    else (if int_le least_delay p.min && (int_le p.min p.max && int_le p.max greatest_delay) then pair p else faulty 3))

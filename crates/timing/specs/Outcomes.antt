@@ -1,5 +1,5 @@
 -- What a call answers: it grants something, or it refuses with a row of the refusal table.
-use Rattle.std.specs.Prelude.{ℕ, ◌+◌, Bool, cond, ◌&&◌, List, [], ◌∷◌, length, Some, None, Ok, Err, Option, Result, nat_le}
+use Rattle.std.specs.Prelude.{ℕ, ◌+◌, Bool, if◌then◌else◌, ◌&&◌, List, [], ◌∷◌, length, Some, None, Ok, Err, Option, Result, nat_le}
 use Rattle.timing.specs.declared.refusal.Refusal.{Refusal}
 use Rattle.timing.specs.Meaning.{Entry, pair, faulty, Meaning}
 use Rattle.timing.specs.Table.{refusal_number, refusal_values}
@@ -16,7 +16,7 @@ told (Err f) = refused (refusal_number f) (refusal_values f)
 
 -- a check in a row of checks: where it fails it is refused with a number, else the rest decides
 abbrev pub unless : {A : Type 0} → Bool → ℕ → Outcome A → Outcome A
-unless ok number rest = cond ok rest (refused number [])
+unless ok number rest = if ok then rest else refused number []
 
 -- the checks that calls share: the period (8), an offset or a ceiling (7), the number of entries (6)
 abbrev pub period_within : ℕ → Bool

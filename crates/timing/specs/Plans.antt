@@ -1,5 +1,5 @@
 -- Plans of two clock domains: which are legal, and which is the least.
-use Rattle.std.specs.Prelude.{◌≡◌, ℕ, ◌<◌, ◌≤◌, cond, List, ℤ, pos, ◌==◌, slice_index, slice_index_or}
+use Rattle.std.specs.Prelude.{◌≡◌, ℕ, ◌<◌, ◌≤◌, if◌then◌else◌, List, ℤ, pos, ◌==◌, slice_index, slice_index_or}
 use Rattle.std.specs.List.{AllByRecursion}
 use Rattle.timing.specs.declared.domain.Domain.{Domain}
 use Rattle.timing.specs.declared.domain.Domain.TheVariants.{Early, Late}
@@ -14,7 +14,7 @@ clock s Late = pos s
 
 -- The domain that a byte of domain memory gives: 1 is late, any other early; a register past the memory is early.
 abbrev pub domain_of : ℕ → Domain
-domain_of b = cond (b == 1) Late Early
+domain_of b = if b == 1 then Late else Early
 
 abbrev pub domains_of : List ℕ → ℕ → Domain
 domains_of ds r = domain_of (slice_index ds r)

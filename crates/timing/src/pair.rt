@@ -1,4 +1,4 @@
-ghost use Rattle.std.specs.Prelude.{◌≡◌, pos, ◌-ℤ◌, ◌≤ℤ◌, is_ok, Decides};
+ghost use Rattle.std.specs.Prelude.{◌≡◌, ◌↔◌, pos, ◌-ℤ◌, ◌≤ℤ◌, IsOk};
 ghost use Rattle.timing.specs.Delays.{Hold, Lawful, Setup, hold_room, hold_slack, setup_room, setup_slack};
 ghost use Rattle.timing.specs.Meaning.{answered, judged};
 
@@ -20,7 +20,7 @@ impl Pair {
     // The pair, if it is lawful in a circuit of so many registers; else the first refusal of 2, 14 and 3.
     pub fn validate(self, registers: u32) -> Result<Pair, Refusal>
         ensures answer { answered result ≡ judged registers self }
-        ensures exact { Decides (is_ok result) (Lawful registers self) }
+        ensures exact { IsOk result ↔ Lawful registers self }
     {
         if self.launch >= registers || self.capture >= registers {
             return Err(Refusal::NoSuchRegister);
@@ -51,7 +51,7 @@ impl Pair {
     // What the setup limit has to spare with the launch and the capture register clocked at these times.
     pub fn setup_slack(self, period: u32, launch: i64, capture: i64) -> i128
         ensures value { result ≡ setup_slack self period launch capture }
-        ensures kept { (pos 0 ≤ℤ result → Setup self period launch capture) × (Setup self period launch capture → pos 0 ≤ℤ result) }
+        ensures kept { pos 0 ≤ℤ result ↔ Setup self period launch capture }
     {
         spare(self.setup_room(period), launch, capture)
     }
@@ -59,7 +59,7 @@ impl Pair {
     // What the hold limit has to spare with the launch and the capture register clocked at these times.
     pub fn hold_slack(self, launch: i64, capture: i64) -> i128
         ensures value { result ≡ hold_slack self launch capture }
-        ensures kept { (pos 0 ≤ℤ result → Hold self launch capture) × (Hold self launch capture → pos 0 ≤ℤ result) }
+        ensures kept { pos 0 ≤ℤ result ↔ Hold self launch capture }
     {
         spare(self.hold_room(), capture, launch)
     }
