@@ -45,6 +45,7 @@ fn run(rt: &HostRuntime) -> anyhow::Result<Outcome> {
     Ok(Outcome::Granted)
 }
 
+// A command is data that the arguments are read as, and not a closure, so that all of them are read in one place.
 fn perform(rt: &HostRuntime, words: &[&str]) -> anyhow::Result<Outcome> {
     let Some(command) = read_command(words) else {
         rt.eprint(USAGE)?;

@@ -31,6 +31,7 @@ pub(crate) fn pack(rt: &HostRuntime, text_path: &str, file_path: &str) -> anyhow
             println!(rt; "{file_path} is not written")?;
             Ok(Outcome::Refused)
         }
+        // That memory ran out is all there is to know of it, so nothing of the error was kept.
         Err(WriteError::Memory) => Err(AllocError.into()),
     }
 }

@@ -82,7 +82,7 @@ impl Desk {
             return Ok(Outcome::Refused);
         };
         match request {
-            Request::Open { .. } => Ok(Outcome::Refused),
+            Request::Open { .. } => unreachable!(),
             Request::Load(file) => load(rt, session, file, out),
             Request::Save { file, registers } => save(rt, session, file, *registers, out),
             Request::Perform(call) => tell_answer(step(session, rt.alloc(), call), out),
@@ -197,8 +197,7 @@ fn register_records<'a>(bytes: &'a [u8], registers: u32) -> Result<&'a [u8], Fau
     if view.registers() != registers {
         return Err(Fault::of_file(Refusal::RegisterCount));
     }
-    let length = (registers as usize).saturating_mul(RECORD_BYTES);
-    Ok(&bytes[0..length.min(bytes.len())])
+    Ok(&bytes[..registers as usize * RECORD_BYTES])
 }
 
 fn tell_answer(answer: Answer, out: &mut String) -> anyhow::Result<Outcome> {

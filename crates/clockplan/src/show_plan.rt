@@ -1,5 +1,5 @@
 // Plan files, shown: a plan that reads, or the records of one that does not.
-ghost use Rattle.std.specs.Prelude.{◌≡◌, ◌||◌, IfOk, IfSome, ◌==◌, slice_index};
+ghost use Rattle.std.specs.Prelude.{◌≡◌, ◌≤◌, ◌↔◌, ◌||◌, length, IfOk, IfSome, IsSome, ◌==◌, slice_index};
 ghost use Rattle.clockplan.specs.Counts.{late_count};
 ghost use Rattle.clockplan.specs.Verdicts.{is_granted, reads};
 ghost use Rattle.delay_file.specs.Bytes.{be32};
@@ -13,6 +13,7 @@ use plan_file::plan_reader::{PlanNumbers, read_plan};
 use std::alloc::Global;
 use std::fmt;
 use std::fmt::Write;
+use timing::domain::Domain;
 use timing::limits::MAX_REGISTERS;
 
 // A word has the domains of this many registers.
@@ -26,12 +27,10 @@ pub(crate) fn is_plan(bytes: &[u8]) -> bool
     first == Some(Kind::Head.byte()) || first == Some(Kind::Word.byte())
 }
 
-// The numbers of a head.
+// The numbers of a head: those of its plan, and how many registers are late.
 #[derive(Clone, Copy)]
 pub struct ShownHead {
-    period: u32,
-    offset: u32,
-    registers: u32,
+    numbers: PlanNumbers,
     late: u32,
 }
 
@@ -40,7 +39,7 @@ impl fmt::Display for ShownHead {
         write!(
             f,
             "period {} offset {} registers {} late {}",
-            self.period, self.offset, self.registers, self.late
+            self.numbers.period, self.numbers.offset, self.numbers.registers, self.late
         )
     }
 }
@@ -66,9 +65,7 @@ pub(crate) fn show_plan(heap: Global, bytes: &[u8], out: &mut String) -> anyhow:
 fn show_read(numbers: PlanNumbers, domains: &[u8], out: &mut String) -> anyhow::Result<()> {
     let registers = numbers.registers;
     let head = ShownHead {
-        period: numbers.period,
-        offset: numbers.offset,
-        registers,
+        numbers,
         late: numbers.draft(domains).late_count(registers),
     };
     writeln!(out, "record 0: {head}")?;
@@ -93,7 +90,7 @@ fn show_word(word: usize, domains: &[u8], out: &mut String) -> anyhow::Result<()
         write!(out, ":")?;
     }
     for (at, byte) in domains.iter().enumerate() {
-        if *byte == 1 {
+        if *byte == Domain::Late.byte() {
             let register = first.saturating_add(at);
             write!(out, " {register}")?;
         }
@@ -106,7 +103,10 @@ fn show_word(word: usize, domains: &[u8], out: &mut String) -> anyhow::Result<()
 fn late_in(domains: &[u8]) -> usize
     ensures { result ≡ late_count domains.now }
 {
-    domains.iter().filter(|byte| **byte == 1).count()
+    domains
+        .iter()
+        .filter(|byte| **byte == Domain::Late.byte())
+        .count()
 }
 
 // A plan that does not read: why, and what each of its records says by itself.
@@ -149,12 +149,16 @@ fn show_part(part: &[u8], out: &mut String) -> anyhow::Result<()> {
 
 // The numbers in the bytes of a head, if there are as many.
 fn head_in(part: &[u8]) -> Option<ShownHead>
-    ensures { IfSome result (λ h. (h.period ≡ be32 part.now 4) × (h.offset ≡ be32 part.now 8) × (h.registers ≡ be32 part.now 12) × (h.late ≡ be32 part.now 16)) }
+    ensures there { IsSome result ↔ (20 ≤ length part.now) }
+    ensures numbers { IfSome result (λ h. (h.numbers.period ≡ be32 part.now 4) × (h.numbers.offset ≡ be32 part.now 8) × (h.numbers.registers ≡ be32 part.now 12)) }
+    ensures late { IfSome result (λ h. h.late ≡ be32 part.now 16) }
 {
     Some(ShownHead {
-        period: number_at(part, 4)?,
-        offset: number_at(part, 8)?,
-        registers: number_at(part, 12)?,
+        numbers: PlanNumbers {
+            period: number_at(part, 4)?,
+            offset: number_at(part, 8)?,
+            registers: number_at(part, 12)?,
+        },
         late: number_at(part, 16)?,
     })
 }

@@ -70,18 +70,20 @@ fn tell_total(spares: &[Spare], broken: usize, out: &mut String) -> anyhow::Resu
 
 // What every entry has to spare, the tightest first.
 fn sorted_spares(heap: Global, planned: &Planned<'_>) -> Result<Vec<Spare>, AllocError> {
-    let mut spares = Vec::new(heap);
-    // Memory for each can run out, so a chain would be no plainer.
-    for place in 0..planned.view.entry_count() {
-        if let Ok(pair) = planned.view.entry(place) {
-            spares.push(Spare {
-                slack: planned.draft.slack(pair),
-                place,
-            })?;
-        }
-    }
+    let mut spares: Vec<Spare> = (0..planned.view.entry_count())
+        .filter_map(|place| spare_at(planned, place))
+        .collect(heap)?;
     spares.sort()?;
     Ok(spares)
+}
+
+// What the entry at a place has to spare, if it can be read.
+fn spare_at(planned: &Planned<'_>, place: usize) -> Option<Spare> {
+    let pair = planned.view.entry(place).ok()?;
+    Some(Spare {
+        slack: planned.draft.slack(pair),
+        place,
+    })
 }
 
 // How many entries have a broken limit.

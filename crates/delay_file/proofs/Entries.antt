@@ -33,9 +33,6 @@ pub entry_at_is : (v : FileView) (place : ℕ) → place < record_count v.bytes.
 entry_at_is v place h =
     get_or-map-range_with_len (entry_in v (view_registers v)) (view_registers v) (record_count v.bytes.now - view_registers v) place (view_registers v + place) (faulty 5) h refl
 
-pub entry_at_past : (v : FileView) (place : ℕ) → record_count v.bytes.now - view_registers v ≤ place → entry_at (view_meaning v) place ≡ faulty 5
-entry_at_past v place h = let l = entry_count_is v in get_or_past (view_meaning v).entries place (faulty 5) (omega arith)
-
 pub answer_past : (v : FileView) (place : ℕ) → record_count v.bytes.now - view_registers v ≤ place → entry_answer v place ≡ refused 5 None
 answer_past v place h = let l = entry_count_is v in rw (le-ltb place (length (view_meaning v).entries) (omega arith))
 

@@ -19,7 +19,8 @@ pub struct RefusedDraft<'d> {
 }
 
 // Makes a draft a checked plan, if it is legal for a source, pins (a byte for each register) and a ceiling. A draft that
-// is refused is only read; one that is accepted is used up.
+// is refused is only read; one that is accepted is used up. (The source, the pins and the ceiling are in three hands, a file or
+// a session among them, so they come one by one.)
 pub fn check<'d, S: DelaySource>(
     source: &S,
     pins: &[u8],

@@ -35,7 +35,8 @@ impl From<Broken> for Refusal {
     }
 }
 
-// By how much a limit of a lawful pair is broken under a draft; 0 where it is kept.
+// By how much a limit of a lawful pair is broken under a draft; 0 where it is kept. (That the offset keeps its limit was seen
+// before the search; a draft may have any, so its type cannot say it.)
 fn limit_excess(limit: Limit, pair: Pair, draft: &Draft<'_>) -> u32
     requires min { least_delay ≤ℤ pair.min }
     requires max { pair.max ≤ℤ greatest_delay }
@@ -61,9 +62,10 @@ fn broken_limit<S: DelaySource>(source: &S, draft: &Draft<'_>) -> Option<Broken>
     ensures { found_as result ≡ entries_from draft.now.period (draft_time draft.now) 0 (S.meaning source.now).entries }
 {
     let mut found = None;
+    // Labelled, and left from inside at the first broken limit: the order of the search is its promise, and is to be seen.
     'entries: for place in 0..source.entry_count() {
         let Ok(pair) = source.entry(place) else {
-            continue;
+            continue 'entries;
         };
         for limit in [Limit::Setup, Limit::Hold] {
             let excess = limit_excess(limit, pair, draft);

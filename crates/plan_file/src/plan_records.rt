@@ -52,7 +52,8 @@ pub(crate) fn word_bytes(first: u32, word: u64) -> [u8; RECORD_BYTES]
     record
 }
 
-// Puts a record into its place.
+// Puts a record into its place. Sessions have their own: shared, it would be public and require the room, and no public
+// function here requires anything.
 pub(crate) fn put_record(out: &mut [u8], record: usize, bytes: &[u8; RECORD_BYTES])
     requires { «record» * 32 + 32 ≤ length out.old }
     ensures { out.new ≡ take («record» * 32) out.old ++ (bytes.now ++ drop («record» * 32 + 32) out.old) }

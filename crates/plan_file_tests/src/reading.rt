@@ -61,6 +61,7 @@ fn at_fault(byte: usize, mask: u8) -> Option<usize> {
 #[test]
 fn every_byte_damaged(rt: HostRuntime) -> Result<(), Fail> {
     let heap = rt.alloc();
+    // The place of a byte decides what is expected, so each is damaged by its place.
     for at in 0..64 {
         for mask in [1u8, 128] {
             assert_eq!(rt;

@@ -2,7 +2,7 @@
 ghost use Rattle.std.specs.Prelude.{◌≡◌, ◌++◌, length, decimal};
 ghost use Rattle.plan_report.specs.Text.{HasRoom, Pushes};
 
-// The memory, and where the text in it ends so far.
+// The memory, and where the text in it ends so far: the memory is lent, so there is a place beside it and not a String.
 #[derive(Drop)]
 pub(crate) struct Text<'m> {
     memory: &'m mut [u8],

@@ -10,7 +10,8 @@ use std::alloc::{AllocError, Global};
 use timing::pair::Pair;
 use timing::source::DelaySource;
 
-// Performs one call, and gives its answer.
+// Performs one call, and gives its answer. Calls are data and not closures, since lists of them are kept, and promises are made
+// about such lists.
 pub fn step(session: &mut Session, heap: Global, call: &Call) -> Answer
     ensures right { Right (book session.old) call.now result }
     ensures next { book session.new ≡ next (book session.old) call.now }

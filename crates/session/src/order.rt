@@ -5,7 +5,7 @@ ghost use Rattle.std.specs.Prelude.{◌≡◌, ◌↔◌, IsTrue};
 use timing::pair::Pair;
 
 // Whether the pairs of a file have risen by launch and capture so far. Among pairs that rise none is between the same
-// registers as another, so that a load need not look for one.
+// registers as another, so that a load need not look for one. (Two of the three have no pair, and differ.)
 #[derive(Clone, Copy)]
 pub(crate) enum Order {
     Nothing,

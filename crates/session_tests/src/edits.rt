@@ -13,18 +13,18 @@ use timing::source::DelaySource;
 #[test]
 fn a_pair_that_breaks_several_rules(rt: HostRuntime) -> Result<(), Fail> {
     let mut session = opened(rt.alloc(), 3, 1)?;
-    assert_eq!(rt; number(session.add(pair(0, 1, 2, 6))), 0);
+    assert_eq!(rt; number(session.add(pair(0, 1, 2, 6))), None);
     let cases = [
-        (pair(3, 1, MISSING_DELAY, 1_000_001), 2),
-        (pair(0, 3, 7, 6), 2),
-        (pair(4_294_967_295, 0, 2, 6), 2),
-        (pair(0, 1, MISSING_DELAY, 1_000_001), 14),
-        (pair(0, 1, 1_000_001, MISSING_DELAY), 14),
-        (pair(0, 1, 7, 6), 3),
-        (pair(0, 1, -1_000_001, 6), 3),
-        (pair(0, 1, 2, 6), 4),
-        (pair(0, 1, 3, 3), 4),
-        (pair(1, 0, 2, 6), 6),
+        (pair(3, 1, MISSING_DELAY, 1_000_001), Some(2)),
+        (pair(0, 3, 7, 6), Some(2)),
+        (pair(4_294_967_295, 0, 2, 6), Some(2)),
+        (pair(0, 1, MISSING_DELAY, 1_000_001), Some(14)),
+        (pair(0, 1, 1_000_001, MISSING_DELAY), Some(14)),
+        (pair(0, 1, 7, 6), Some(3)),
+        (pair(0, 1, -1_000_001, 6), Some(3)),
+        (pair(0, 1, 2, 6), Some(4)),
+        (pair(0, 1, 3, 3), Some(4)),
+        (pair(1, 0, 2, 6), Some(6)),
     ];
     for (given, refused) in cases {
         assert_eq!(rt; number(session.add(given)), refused);
@@ -37,28 +37,28 @@ fn a_pair_that_breaks_several_rules(rt: HostRuntime) -> Result<(), Fail> {
 #[test]
 fn retimed_and_dropped(rt: HostRuntime) -> Result<(), Fail> {
     let mut session = opened(rt.alloc(), 3, 4)?;
-    assert_eq!(rt; number(session.add(pair(0, 1, 2, 6))), 0);
-    assert_eq!(rt; number(session.add(pair(1, 0, 2, 6))), 0);
-    assert_eq!(rt; number(session.add(pair(1, 1, 2, 6))), 0);
+    assert_eq!(rt; number(session.add(pair(0, 1, 2, 6))), None);
+    assert_eq!(rt; number(session.add(pair(1, 0, 2, 6))), None);
+    assert_eq!(rt; number(session.add(pair(1, 1, 2, 6))), None);
     let cases = [
-        (pair(2, 3, MISSING_DELAY, 1_000_001), 2),
-        (pair(2, 1, MISSING_DELAY, 1_000_001), 14),
-        (pair(2, 1, 7, 6), 3),
-        (pair(2, 1, 2, 6), 5),
-        (pair(1, 0, -1_000_000, 1_000_000), 0),
+        (pair(2, 3, MISSING_DELAY, 1_000_001), Some(2)),
+        (pair(2, 1, MISSING_DELAY, 1_000_001), Some(14)),
+        (pair(2, 1, 7, 6), Some(3)),
+        (pair(2, 1, 2, 6), Some(5)),
+        (pair(1, 0, -1_000_000, 1_000_000), None),
     ];
     for (given, answer) in cases {
         assert_eq!(rt; number(session.retime(given)), answer);
     }
     let retimed = pair(1, 0, -1_000_000, 1_000_000);
     assert!(rt; shows(&session, &[retimed, pair(0, 1, 2, 6), pair(1, 1, 2, 6)]));
-    assert_eq!(rt; number(session.drop_pair(0, 3)), 2);
-    assert_eq!(rt; number(session.drop_pair(3, 0)), 2);
-    assert_eq!(rt; number(session.drop_pair(0, 2)), 5);
-    assert_eq!(rt; number(session.drop_pair(0, 1)), 0);
-    assert_eq!(rt; number(session.drop_pair(0, 1)), 5);
+    assert_eq!(rt; number(session.drop_pair(0, 3)), Some(2));
+    assert_eq!(rt; number(session.drop_pair(3, 0)), Some(2));
+    assert_eq!(rt; number(session.drop_pair(0, 2)), Some(5));
+    assert_eq!(rt; number(session.drop_pair(0, 1)), None);
+    assert_eq!(rt; number(session.drop_pair(0, 1)), Some(5));
     assert!(rt; shows(&session, &[retimed, pair(1, 1, 2, 6)]));
-    assert_eq!(rt; number(session.drop_pair(1, 1)), 0);
+    assert_eq!(rt; number(session.drop_pair(1, 1)), None);
     assert!(rt; shows(&session, &[retimed]));
     Ok(())
 }
@@ -98,9 +98,14 @@ fn pins_and_the_ceiling(rt: HostRuntime) -> Result<(), Fail> {
     assert_eq!(rt; session.unpin(1), Ok(()));
     assert_eq!(rt; session.unpin(0), Ok(()));
     assert!(rt; session.pins() == [2, 2, 0].as_slice());
-    for (ceiling, answer) in [(0u32, 0u32), (1_000_000, 0), (5, 0), (1_000_001, 7)] {
+    for (ceiling, answer) in [
+        (0u32, None),
+        (1_000_000, None),
+        (5, None),
+        (1_000_001, Some(7)),
+    ] {
         assert_eq!(rt; number(session.set_ceiling(ceiling)), answer);
-        if answer == 0 {
+        if answer.is_none() {
             assert_eq!(rt; session.ceiling(), ceiling);
         }
     }
@@ -153,9 +158,9 @@ fn memory_that_is_not_used(rt: HostRuntime) -> Result<(), Fail> {
     let Ok(mut session) = Session::open(3, pairs, pins) else {
         return Err(Fail::new("the session opens"));
     };
-    assert_eq!(rt; number(session.pin(2, Domain::Late)), 0);
-    assert_eq!(rt; number(session.pin(3, Domain::Late)), 2);
-    assert_eq!(rt; number(session.add(pair(0, 1, 2, 6))), 0);
+    assert_eq!(rt; number(session.pin(2, Domain::Late)), None);
+    assert_eq!(rt; number(session.pin(3, Domain::Late)), Some(2));
+    assert_eq!(rt; number(session.add(pair(0, 1, 2, 6))), None);
     assert!(rt; session.pins() == [2, 2, 1].as_slice());
     let (pair_memory, pin_memory) = session.close();
     assert!(rt; pin_memory.as_slice() == [2, 2, 1, 9, 9].as_slice());

@@ -31,17 +31,16 @@ pub(crate) fn file(heap: Global, registers: usize, pairs: &[Pair]) -> Result<Vec
     encode_file(heap, names.as_slice(), pairs).map_err(|_| Fail::new("the file is written"))
 }
 
-// The number that an edit was refused with, 0 where it was granted.
-pub(crate) fn number(answer: Result<(), Refusal>) -> u32 {
-    answer.err().map_or(0, |refusal| refusal.number())
+// The number that an edit was refused with, if it was.
+pub(crate) fn number(answer: Result<(), Refusal>) -> Option<u32> {
+    answer.err().map(|refusal| refusal.number())
 }
 
-// The number that a load was refused with and the record at fault, 0 and none where it was granted.
-pub(crate) fn stop(answer: Result<(), Fault>) -> (u32, Option<usize>) {
-    match answer {
-        Ok(()) => (0, None),
-        Err(fault) => (fault.refusal.number(), fault.record),
-    }
+// The number that a load was refused with and the record at fault, if it was.
+pub(crate) fn stop(answer: Result<(), Fault>) -> Option<(u32, Option<usize>)> {
+    answer
+        .err()
+        .map(|fault| (fault.refusal.number(), fault.record))
 }
 
 // All that is in force in a session, the pairs as the bytes that it saves.

@@ -13,11 +13,11 @@ use timing::source::DelaySource;
 fn edited(rt: &impl Abort, heap: Global) -> Result<Session, Fail> {
     let mut session = opened(heap, 5, 6)?;
     for (launch, capture) in [(4u32, 0u32), (0, 1), (3, 2), (2, 3), (1, 1)] {
-        assert_eq!(rt; number(session.add(pair(launch, capture, -3, 9))), 0);
+        assert_eq!(rt; number(session.add(pair(launch, capture, -3, 9))), None);
     }
-    assert_eq!(rt; number(session.drop_pair(4, 0)), 0);
-    assert_eq!(rt; number(session.retime(pair(1, 1, 5, 5))), 0);
-    assert_eq!(rt; number(session.drop_pair(2, 3)), 0);
+    assert_eq!(rt; number(session.drop_pair(4, 0)), None);
+    assert_eq!(rt; number(session.retime(pair(1, 1, 5, 5))), None);
+    assert_eq!(rt; number(session.drop_pair(2, 3)), None);
     Ok(session)
 }
 
@@ -50,16 +50,16 @@ fn saved_pairs_load_back(rt: HostRuntime) -> Result<(), Fail> {
     let mut session = edited(&rt, heap)?;
     let pairs = [pair(0, 1, -3, 9), pair(3, 2, -3, 9), pair(1, 1, 5, 5)];
     assert!(rt; shows(&session, &pairs));
-    assert_eq!(rt; number(session.pin(0, Domain::Early)), 0);
+    assert_eq!(rt; number(session.pin(0, Domain::Early)), None);
     let mut records = [0u8; 96];
     assert_eq!(rt; session.save(&mut records), Ok(96));
     let mut bytes = file(heap, 5, &[])?;
     bytes.extend_from_slice(&records)?;
     let mut other = opened(heap, 5, 6)?;
-    assert_eq!(rt; stop(other.load(bytes.as_slice())), (0, None));
+    assert_eq!(rt; stop(other.load(bytes.as_slice())), None);
     assert!(rt; shows(&other, &pairs));
     assert!(rt; other.pins() == [2, 2, 2, 2, 2].as_slice());
     assert_eq!(rt; times_shown(&other, pair(4, 0, -3, 9)), 0);
-    assert_eq!(rt; stop(session.load(bytes.as_slice())), (4, Some(5)));
+    assert_eq!(rt; stop(session.load(bytes.as_slice())), Some((4, Some(5))));
     Ok(())
 }

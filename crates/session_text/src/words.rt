@@ -70,7 +70,7 @@ fn misformed<'t>(words: &[&'t str]) -> Mistake<'t> {
     }
 }
 
-// The form that a call of this name has.
+// The form that a call of this name has. The names stand here again, for a line that has a call's name and not its form.
 fn form_of(name: &str) -> Option<&'static str> {
     match name {
         "open" => Some("open REGISTERS [PLACES]"),

@@ -2,6 +2,7 @@ ghost use Rattle.small_circuits.specs.Yields.{Yields};
 ghost use Rattle.std.specs.List.{AllByRecursion};
 
 use crate::circuit::{LeastPlan, LeastTimes, SmallCircuit};
+use timing::domain::FREE;
 use timing::limits::MAX_OFFSET;
 use timing::pair::Pair;
 
@@ -97,7 +98,7 @@ fn there_and_back() -> SmallCircuit
     SmallCircuit {
         registers: 2,
         pairs: &THERE_AND_BACK,
-        pins: &[2, 2],
+        pins: &[FREE, FREE],
         ceiling: MAX_OFFSET,
         plan: Some(LeastPlan {
             period: 4,
@@ -118,7 +119,7 @@ fn low_ceiling() -> SmallCircuit
     SmallCircuit {
         registers: 2,
         pairs: &THERE_AND_BACK,
-        pins: &[2, 2],
+        pins: &[FREE, FREE],
         ceiling: 1,
         plan: Some(LeastPlan {
             period: 5,
@@ -139,7 +140,7 @@ fn pinned_early() -> SmallCircuit
     SmallCircuit {
         registers: 2,
         pairs: &THERE_AND_BACK,
-        pins: &[2, 0],
+        pins: &[FREE, 0],
         ceiling: MAX_OFFSET,
         plan: Some(LeastPlan {
             period: 6,
@@ -160,7 +161,7 @@ fn two_in_a_row() -> SmallCircuit
     SmallCircuit {
         registers: 3,
         pairs: &TWO_IN_A_ROW,
-        pins: &[2, 2, 2],
+        pins: &[FREE, FREE, FREE],
         ceiling: MAX_OFFSET,
         plan: Some(LeastPlan {
             period: 6,
@@ -181,7 +182,7 @@ fn negative_hold() -> SmallCircuit
     SmallCircuit {
         registers: 2,
         pairs: &NEGATIVE_HOLD,
-        pins: &[2, 2],
+        pins: &[FREE, FREE],
         ceiling: MAX_OFFSET,
         plan: Some(LeastPlan {
             period: 5,
@@ -202,7 +203,7 @@ fn negative_hold_low_ceiling() -> SmallCircuit
     SmallCircuit {
         registers: 2,
         pairs: &NEGATIVE_HOLD,
-        pins: &[2, 2],
+        pins: &[FREE, FREE],
         ceiling: 1,
         plan: None,
         free: Some(LeastTimes {
@@ -219,7 +220,7 @@ fn negative_hold_twice() -> SmallCircuit
     SmallCircuit {
         registers: 3,
         pairs: &NEGATIVE_HOLD_TWICE,
-        pins: &[2, 2, 2],
+        pins: &[FREE, FREE, FREE],
         ceiling: MAX_OFFSET,
         plan: None,
         free: Some(LeastTimes {
@@ -236,7 +237,7 @@ fn self_hold_broken() -> SmallCircuit
     SmallCircuit {
         registers: 1,
         pairs: &HOLD_BROKEN_BY_ITSELF,
-        pins: &[2],
+        pins: &[FREE],
         ceiling: MAX_OFFSET,
         plan: None,
         free: None,
@@ -250,7 +251,7 @@ fn self_pair() -> SmallCircuit
     SmallCircuit {
         registers: 1,
         pairs: &FROM_ITSELF,
-        pins: &[2],
+        pins: &[FREE],
         ceiling: MAX_OFFSET,
         plan: Some(LeastPlan {
             period: 5,
@@ -271,7 +272,7 @@ fn no_pairs() -> SmallCircuit
     SmallCircuit {
         registers: 1,
         pairs: &[],
-        pins: &[2],
+        pins: &[FREE],
         ceiling: MAX_OFFSET,
         plan: Some(LeastPlan {
             period: 1,
