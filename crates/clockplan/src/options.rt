@@ -115,8 +115,8 @@ fn pin_in<'w>(words: &[&'w str]) -> Result<Pin<'w>, Problem<'w>> {
     asked_pin(value).ok_or(Problem::WrongValue { wanted: PIN, value })
 }
 
-// The pin that a text asks for. Its name may hold `=` itself, so only the end of the text is taken off. (Split at its last `=`
-// and with a domain read behind that, the text would have to be put together again to say that it ends so.)
+// The pin that a text asks for. Its name may hold `=` itself, so only the end of the text is taken off. (That it ends
+// so is what is promised, and what `strip_suffix` says; of a text split at its last `=` it would have to be shown.)
 fn asked_pin<'w>(text: &'w str) -> Option<Pin<'w>>
     ensures { MatchOption result ((name : List ℕ) (d : Domain) → text.now ≢ name ++ pin_end d) (λ p. text.now ≡ p.name.now ++ pin_end p.domain) }
 {

@@ -1,5 +1,5 @@
 // What is said of a draft that was refused: the numbers and the names that show why.
-ghost use Rattle.std.specs.Prelude.{◌≡◌, ◌≢◌};
+ghost use Rattle.std.specs.Prelude.{◌≢◌};
 
 use crate::planned::Planned;
 use crate::show::{record_of, show_faulty};

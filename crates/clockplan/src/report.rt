@@ -1,12 +1,13 @@
 use crate::commands::{Outcome, Paths};
 use crate::planned::{Planned, with_planned};
 use crate::problem::{Problem, tell_problem};
-use plan_report::report;
+use plan_report::report::{self, HEAD_ROOM, LINE_ROOM};
 use std::alloc::Global;
 use std::str;
+use timing::limits::MAX_REGISTERS;
 
 // The memory that a report of the most registers wants.
-const REPORT_BYTES: usize = 64 + 32 * 4096;
+const REPORT_BYTES: usize = HEAD_ROOM + LINE_ROOM * MAX_REGISTERS as usize;
 
 // Prints the report of a plan, with the names that a delay file has for its registers.
 pub(crate) fn report(rt: &HostRuntime, paths: Paths<'_>) -> anyhow::Result<Outcome> {

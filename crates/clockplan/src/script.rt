@@ -7,7 +7,7 @@ use delay_file::view::FileView;
 use planner::call::{Answer, Call};
 use planner::runs::step;
 use session::Session;
-use session_text::script::{Request, Script, ScriptLine, read_script};
+use session_text::script::{Request, ScriptLine, read_script};
 use std::fmt::Write;
 use timing::domain::FREE;
 use timing::limits::{MAX_ENTRIES, MAX_REGISTERS};

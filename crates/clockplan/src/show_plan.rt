@@ -9,15 +9,12 @@ use crate::commands::Outcome;
 use delay_file::fault::Fault;
 use delay_file::fields::{number_at, word_at};
 use delay_file::layout::{Kind, RECORD_BYTES};
-use plan_file::plan_reader::{PlanNumbers, read_plan};
+use plan_file::plan_reader::{PlanNumbers, WORD_REGISTERS, read_plan};
 use std::alloc::Global;
 use std::fmt;
 use std::fmt::Write;
 use timing::domain::Domain;
 use timing::limits::MAX_REGISTERS;
-
-// A word has the domains of this many registers.
-const WORD_REGISTERS: usize = 64;
 
 // Whether a file is to be shown as a plan, which the kind of its first record tells.
 pub(crate) fn is_plan(bytes: &[u8]) -> bool

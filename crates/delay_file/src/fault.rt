@@ -1,5 +1,4 @@
 ghost use Rattle.std.specs.Prelude.{◌≡◌, Some, None};
-ghost use Rattle.timing.specs.declared.refusal.Refusal.TheVariants.{MalformedRecord};
 
 use std::error::Error;
 use std::fmt;

@@ -39,6 +39,7 @@ pub fn word_at(bytes: &[u8], at: usize) -> Option<u64>
     if field.len() < 8 {
         return None;
     }
+    // Joined by arithmetic, as `be64` is; that eight bytes read at once are the same would have to be shown.
     let high = u64::from(u32_at(bytes, at));
     let low = u64::from(u32_at(bytes, at + 4));
     Some(high * 4_294_967_296 + low)

@@ -1,5 +1,5 @@
 // The register records at the start of a file.
-ghost use Rattle.std.specs.Prelude.{◌≡◌, ◌<◌};
+ghost use Rattle.std.specs.Prelude.{◌<◌};
 ghost use Rattle.delay_file.specs.Files.{JudgedRegister, JudgedRun, record_count};
 
 use crate::fault::Fault;

@@ -57,7 +57,7 @@ const REGISTERS_END: Result<Opened, (u32, Option<usize>)> = Ok(Opened {
 fn a_register_record_with_a_bit_turned(rt: HostRuntime) -> Result<(), Fail> {
     let good = good_file().ok_or("the file is made")?;
     assert_eq!(rt; answer_for(&good), AS_MADE);
-    // The place of a byte decides what is expected, here and below, so each is damaged by its place.
+    // The place of a byte decides what is expected, so each is damaged by its place.
     for at in 0..32 {
         let mut file = good;
         file[32 + at] ^= 128;
@@ -74,6 +74,7 @@ fn a_register_record_with_a_bit_turned(rt: HostRuntime) -> Result<(), Fail> {
 #[test]
 fn a_register_record_with_a_letter_put_in(rt: HostRuntime) -> Result<(), Fail> {
     let good = good_file().ok_or("the file is made")?;
+    // The place of a byte decides what is expected, so each is damaged by its place.
     for at in 0..32 {
         let mut file = good;
         file[32 + at] = 120;
@@ -101,6 +102,7 @@ fn pair_refused(at: usize) -> Option<u32> {
 #[test]
 fn a_pair_record_with_a_bit_turned(rt: HostRuntime) -> Result<(), Fail> {
     let good = good_file().ok_or("the file is made")?;
+    // The place of a byte decides what is expected, so each is damaged by its place.
     for at in 0..32 {
         let mut file = good;
         file[64 + at] ^= 128;

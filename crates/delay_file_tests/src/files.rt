@@ -11,6 +11,7 @@ use timing::source::DelaySource;
 // A file of so many registers, all named r.
 fn registers_file(heap: Global, count: u32) -> Result<Vec<u8>, AllocError> {
     let mut file = Vec::new(heap);
+    // Memory for each can run out, so a chain would be no plainer.
     for number in 0..count {
         if let Ok(record) = encode_register(number, b"r") {
             file.extend_from_slice(&record)?;

@@ -1,10 +1,15 @@
 -- The first register that is not in its pinned domain.
-use Rattle.std.proofs.Common.{◌≡◌, ℕ, ◌-◌, ◌≤◌, Bool, true, false, cond, List, [], ◌∷◌, Some, not, sym, refl, ap, ◌∙◌, Option, arith}
+use Rattle.std.proofs.Common.{◌≡◌, ℕ, ◌-◌, ◌≤◌, Bool, true, false, cond, List, [], ◌∷◌, Some, None, not, sym, refl, ap, ◌∙◌, Option, arith}
 use Rattle.std.specs.List.{find, range_with_len}
 use Rattle.timing.specs.Meaning.{Meaning}
 use Rattle.timing.specs.declared.refusal.Part.TheVariants.{Ceiling, Pin}
 use Rattle.plan_file.specs.Drafts.{Verdict, broken, by_excess, entries_from, pins_from, time_of, verdict}
-use Rattle.plan_file.specs.Found.{by_pin, is_met}
+use Rattle.plan_file.specs.Found.{is_met}
+
+-- a register whose pin is broken, if there is one; else the rest decides
+abbrev pub by_pin : Option ℕ → Verdict → Verdict
+by_pin None rest = rest
+by_pin (Some r) rest = broken Pin r 0
 
 one_pin : (pins ds : List ℕ) (b : Bool) (r : ℕ) (rs : List ℕ) (rest : Verdict) → pins_from pins ds rs rest ≡ by_pin (find (λ k. not (is_met pins ds k)) rs) rest → cond b (pins_from pins ds rs rest) (broken Pin r 0) ≡ by_pin (cond (not b) (Some r) (find (λ k. not (is_met pins ds k)) rs)) rest
 one_pin pins ds true r rs rest e = e

@@ -2,17 +2,11 @@
 use Rattle.std.specs.Prelude.{ℕ, Bool, List, Some, None, Option, slice_index_or}
 use Rattle.timing.specs.Plans.{domains_of}
 use Rattle.plan_file.specs.Drafts.{Verdict, kept, broken, pin_met}
-use Rattle.timing.specs.declared.refusal.Part.TheVariants.{Pin}
 use Rattle.plan_file.specs.declared.first_broken.Broken.{Broken}
 
 abbrev pub found_as : Option Broken → Verdict
 found_as None = kept
 found_as (Some b) = broken b.part b.place b.excess
-
--- a register whose pin is broken, if there is one; else the rest decides
-abbrev pub by_pin : Option ℕ → Verdict → Verdict
-by_pin None rest = rest
-by_pin (Some r) rest = broken Pin r 0
 
 -- whether register r is in the domain that its pin byte asks for
 abbrev pub is_met : List ℕ → List ℕ → ℕ → Bool

@@ -42,7 +42,7 @@ pub fn check<'d, S: DelaySource>(
     }
 }
 
-// Why a draft is refused, if it is.
+// Why a draft is refused, if it is. (Source, pins and ceiling come one by one, as above.)
 fn judge<S: DelaySource>(
     source: &S,
     pins: &[u8],

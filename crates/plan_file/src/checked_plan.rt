@@ -55,7 +55,7 @@ impl<'d> CheckedPlan<'d> {
             return Err(Refusal::MemoryTooShort);
         }
         put_record(out, 0, &self.head().bytes());
-        // Each word goes to its own place in the lent memory; chunks of that beside the words would be no plainer.
+        // Each word goes to its own place in the lent memory, which `put_record` says; chunks of the memory would say it no plainer.
         for word in 0..word_count(self.registers) {
             let first = 64 * word as u32;
             let late = self.draft.word(self.registers, first);

@@ -56,7 +56,7 @@ fn excess_of(slack: i128) -> u32
     u32::try_from(-slack).unwrap_or(0)
 }
 
-// The first broken limit of an entry, by place, setup before hold.
+// The first broken limit of an entry, by place, setup before hold. (Of the offset's limit, as above.)
 fn broken_limit<S: DelaySource>(source: &S, draft: &Draft<'_>) -> Option<Broken>
     requires { Offset draft.now.offset }
     ensures { found_as result ≡ entries_from draft.now.period (draft_time draft.now) 0 (S.meaning source.now).entries }
@@ -100,7 +100,7 @@ fn broken_pin(pins: &[u8], draft: &Draft<'_>, registers: u32) -> Option<u32>
     (0..registers).find(|&register| !is_pin_met(pins, draft, register))
 }
 
-// The first limit of all that a draft breaks.
+// The first limit of all that a draft breaks. (Of the offset's limit, as above; of source, pins and ceiling, as in `check`.)
 pub(crate) fn first_broken<S: DelaySource>(
     source: &S,
     pins: &[u8],

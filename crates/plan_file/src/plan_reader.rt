@@ -10,6 +10,7 @@ ghost use Rattle.timing.specs.Outcomes.{offset_within, period_within};
 
 use crate::draft::Draft;
 use crate::head::Head;
+pub use crate::plan_records::WORD_REGISTERS;
 use crate::plan_records::{is_laid_out, word_count};
 use delay_file::fault::Fault;
 use delay_file::fields::{number_at, word_at};

@@ -8,7 +8,7 @@ use delay_file::fields::all_zero;
 use delay_file::layout::{Kind, RECORD_BYTES};
 
 // A word has the domains of this many registers.
-const WORD_REGISTERS: usize = 64;
+pub const WORD_REGISTERS: usize = 64;
 
 // How many words of domains so many registers take.
 pub(crate) fn word_count(registers: u32) -> usize

@@ -166,6 +166,7 @@ fn too_many_entries(rt: HostRuntime) -> Result<(), Fail> {
         min: 0,
         max: 1,
     });
+    // Memory for each can run out, so a chain would be no plainer.
     for _ in 0..16_382 {
         file.extend_from_slice(&record)?;
     }

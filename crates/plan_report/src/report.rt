@@ -13,9 +13,9 @@ use timing::limits::{check_offset, check_period};
 use timing::refusal::Refusal;
 
 // The memory that the first line wants, and that each other wants.
-const HEAD_ROOM: usize = 64;
+pub const HEAD_ROOM: usize = 64;
 
-const LINE_ROOM: usize = 32;
+pub const LINE_ROOM: usize = 32;
 
 // Writes the report of a draft for the registers of a delay file, and answers how long it is. What lies past it stays as
 // it was. Refused where the file does not open, then with 8, 7 and 9; a refusal leaves the memory whole.

@@ -120,7 +120,8 @@ impl Session {
         self.pairs.len().min(MAX_ENTRIES) - self.used
     }
 
-    // Where the pair between two registers is kept.
+    // Where the pair between two registers is kept. Callers have the two as numbers, and a struct of them would be taken apart at
+    // once.
     pub(crate) fn place(&self, launch: u32, capture: u32) -> Option<usize>
         ensures found { is_some result ≡ has (book self.now) launch capture }
         ensures there { IfSome result (λ i. i < self.now.used) }

@@ -17,8 +17,8 @@ mod saving;
 pub mod view;
 
 // The pair places and the pin bytes belong to the session while it is open. The first `used` places hold its pairs, no
-// two between the same registers; the order is its own. It has no model: what is promised of its memory would make the view
-// of one its fields again, so `book` says what it is to its users.
+// two between the same registers; the order is its own. It has no model, since promises
+// speak of its memory too, which a view that hides the fields could not show; `book` says what it is to its users.
 #[derive(Drop)]
 pub struct Session {
     registers: u32,

@@ -1,6 +1,6 @@
 ghost use Rattle.session.specs.Orders.{OrderedWith};
 ghost use Rattle.session.specs.Pairs.{Before};
-ghost use Rattle.std.specs.Prelude.{◌≡◌, ◌↔◌, IsTrue};
+ghost use Rattle.std.specs.Prelude.{◌↔◌, IsTrue};
 
 use timing::pair::Pair;
 
