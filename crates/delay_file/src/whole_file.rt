@@ -18,6 +18,7 @@ pub fn encode_file(heap: Global, names: &[&[u8]], pairs: &[Pair]) -> Result<Vec<
     ensures answer { MatchResult result (λ v. written_as v.items ≡ writing (map (λ x. x.now) names.now) pairs.now) (λ e. Refuses (map (λ x. x.now) names.now) pairs.now e) }
     ensures opens { IfOk result (λ v. opening v.items ≡ opened (circuit_meaning (map (λ x. x.now) names.now) pairs.now)) }
 {
+    // By `contains` of a range the goals behind it did not prove: it tells of the length by comparisons and not by numbers.
     if names.len() < 1 || names.len() > MAX_REGISTERS as usize {
         return Err(WriteError::Refused(Fault::of_file(Refusal::RegisterCount)));
     }

@@ -315,7 +315,7 @@ written_reads_back T s n ds was out (Ok k) period offset registers w = λ room h
     subst (λ bytes. ReadsAs bytes T s n ds room) (sym e) (reads_back T s n ds period offset registers room h)
 written_reads_back T s n ds was out (Err f) period offset registers w = tt
 
--- so every plan that is fit for a file reads back
+-- so every plan that is fit for a file reads back, which is what writing one promised before the type of a plan said that it is fit
 pub fit_reads_back : (T s n : ℕ) (ds out : List ℕ) (r : Result ℕ Refusal) → ReadsAsWritten T s n ds out r → ReadsBack T s n ds out r
 fit_reads_back T s n ds out (Ok k) h = λ fit. h
 fit_reads_back T s n ds out (Err f) h = tt
