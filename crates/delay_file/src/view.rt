@@ -107,7 +107,8 @@ impl<'a> FileView<'a> {
         Fault::at(refusal, self.registers as usize + place)
     }
 
-    // Whether an entry before a place goes from one register to another by its fields, whatever else is wrong with it.
+    // Whether an entry before a place goes from one register to another by its fields, whatever else is wrong with it. (The two
+    // come as numbers, as callers have them; a struct of them would be taken apart at once.)
     pub fn joins_before(&self, place: usize, launch: u32, capture: u32) -> bool
         ensures { MatchBool result ((k : ℕ) × (k < place) × JoinsAt self.now k launch capture) ((k : ℕ) → k < place → JoinsAt self.now k launch capture → ⊥) }
     {

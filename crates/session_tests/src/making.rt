@@ -8,6 +8,7 @@ use timing::pair::Pair;
 use timing::refusal::Refusal;
 use timing::source::DelaySource;
 
+// (The tests of delay files have their own, since no crate of tests builds on another.)
 pub(crate) fn pair(launch: u32, capture: u32, min: i32, max: i32) -> Pair {
     Pair {
         launch,
