@@ -1,7 +1,7 @@
 ghost use Rattle.std.specs.Prelude.{◌≡◌, ◌<◌, true, IfOk};
 ghost use Rattle.delay_file.specs.Records.{lawful_name};
 
-use crate::line::{Line, PairLine, read_line};
+use crate::line::{Line, MOST_WORDS, PairLine, read_line};
 use crate::mistake::Problem;
 use delay_file::names::is_lawful_name;
 use std::alloc::{AllocError, Global};
@@ -28,8 +28,15 @@ pub fn read_circuit<'t>(heap: Global, text: &'t str) -> Result<Circuit<'t>, Allo
     };
     let mut numbers = BTreeMap::new(heap);
     let mut waiting = Vec::new(heap);
+    let mut words = Vec::new(heap);
     for (at, line) in (1..).zip(text.lines()) {
-        let words: Vec<&str> = line.split_whitespace().collect(heap)?;
+        let line = line.trim_start();
+        // A comment may be long, so it is not split into words.
+        if line.starts_with('#') {
+            continue;
+        }
+        words.clear();
+        words.extend(line.split_whitespace().take(MOST_WORDS + 1))?;
         match circuit.value_or_note(at, read_line(&words))?.flatten() {
             None => {}
             Some(Line::Pair(pair)) => waiting.push((at, pair))?,

@@ -30,11 +30,13 @@ pub fn read_delay(word: &str) -> Option<i32>
     word.parse().ok().filter(|&delay| delay != MISSING_DELAY)
 }
 
-// What a line says by its words. The first decides; a line without words, or that starts with `#`, says nothing.
+// The most words that a line may have. One word more tells that it has too many, so no further ones are looked at.
+pub(crate) const MOST_WORDS: usize = 5;
+
+// What a line says by its words. The first decides; a line without words says nothing.
 pub(crate) fn read_line<'t>(words: &[&'t str]) -> Result<Option<Line<'t>>, Problem<'t>> {
     match *words {
         [] => Ok(None),
-        [first, ..] if first.starts_with('#') => Ok(None),
         ["register", name] => Ok(Some(Line::Register(name))),
         ["register", ..] => Err(Problem::RegisterForm),
         ["pair", launch, capture, min, max] => Ok(Some(Line::Pair(PairLine {

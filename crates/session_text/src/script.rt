@@ -1,5 +1,5 @@
 use crate::mistake::Mistake;
-use crate::words::read_request;
+use crate::words::{MOST_WORDS, read_request};
 use planner::call::Call;
 use std::alloc::{AllocError, Global};
 
@@ -39,16 +39,24 @@ pub fn read_script<'t>(heap: Global, text: &'t str) -> Result<Script<'t>, AllocE
         lines: Vec::new(heap),
         mistakes: Vec::new(heap),
     };
+    let mut words = Vec::new(heap);
     for (number, line) in (1..).zip(text.lines()) {
-        script.note(heap, number, line.trim())?;
+        let line = line.trim();
+        // A comment may be long, so it is not split into words.
+        if line.starts_with('#') {
+            continue;
+        }
+        words.clear();
+        words.extend(line.split_whitespace().take(MOST_WORDS + 1))?;
+        script.note(number, line, &words)?;
     }
     Ok(script)
 }
 
 impl<'t> Script<'t> {
-    fn note(&mut self, heap: Global, number: usize, text: &'t str) -> Result<(), AllocError> {
-        let words: Vec<&str> = text.split_whitespace().collect(heap)?;
-        match read_request(&words) {
+    // Notes what a line asks for by its words, or what is wrong with it.
+    fn note(&mut self, number: usize, text: &'t str, words: &[&'t str]) -> Result<(), AllocError> {
+        match read_request(words) {
             Ok(None) => {}
             Ok(Some(request)) => {
                 if self.lines.is_empty() && !matches!(request, Request::Open { .. }) {

@@ -6,11 +6,13 @@ use planner::call::Call;
 use timing::limits::MAX_ENTRIES;
 use timing::pair::Pair;
 
-// What a line asks for by its words; nothing where it has none or starts with `#`.
+// The most words that a line may have. One word more tells that it has too many, so no further ones are looked at.
+pub(crate) const MOST_WORDS: usize = 5;
+
+// What a line asks for by its words; nothing where it has none.
 pub(crate) fn read_request<'t>(words: &[&'t str]) -> Result<Option<Request<'t>>, Mistake<'t>> {
     match *words {
         [] => Ok(None),
-        [name, ..] if name.starts_with('#') => Ok(None),
         // As many pair places as a session can use, where none are asked for.
         ["open", registers] => Ok(Some(Request::Open {
             registers: number(registers)?,
