@@ -10,6 +10,6 @@ kind_byte Pair = 2
 kind_byte Head = 16
 kind_byte Word = 17
 
--- a byte is read as the kind that it stands for, and as none where it stands for none
+-- a byte is read as the kind that it stands for, and is handed back where it stands for none
 abbrev pub IsKindOf : ℕ → Result Kind UnknownKind → Type 0
-IsKindOf byte r = MatchResult r (λ k. byte ≡ kind_byte k) (λ e. (k : Kind) → byte ≢ kind_byte k)
+IsKindOf byte r = MatchResult r (λ k. byte ≡ kind_byte k) (λ e. (e.0 ≡ byte) × ((k : Kind) → byte ≢ kind_byte k))

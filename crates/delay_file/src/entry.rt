@@ -8,6 +8,7 @@ use timing::pair::Pair;
 use timing::refusal::Refusal;
 
 // What a record past the registers is worth among so many registers.
+#[inline]
 pub(crate) fn entry_in(bytes: &[u8], record: usize, registers: u32) -> Result<Pair, Fault>
     requires { length bytes.now ≡ 32 }
     ensures { seen_pair result ≡ located «record» (entry_of registers (reading «record» bytes.now)) }

@@ -59,6 +59,7 @@ impl fmt::Display for UnknownKind {
 impl Error for UnknownKind {}
 
 // The bytes of a record, or as many of them as there are where the file ends before it does.
+#[inline]
 pub fn record_bytes<'a>(bytes: &'a [u8], record: usize) -> &'a [u8]
     ensures bytes { result.now ≡ record_at bytes.now «record» }
     ensures length { «record» < record_count bytes.now → length result.now ≡ 32 }

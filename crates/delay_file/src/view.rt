@@ -16,8 +16,8 @@ use timing::refusal::Refusal;
 pub struct FileView<'a> {
     bytes: &'a [u8],
     registers: u32,
-    ghost registers_within: { RegisterCount registers },
-    ghost registers_there: { registers ≤ length bytes.now / 32 },
+    pub ghost registers_within: { RegisterCount registers },
+    pub ghost registers_there: { registers ≤ length bytes.now / 32 },
 }
 
 impl<'a> FileView<'a> {
@@ -87,6 +87,7 @@ impl<'a> FileView<'a> {
     }
 
     // The entry at a place, counted from 0 behind the registers, with the record at fault where it is faulty.
+    #[inline]
     pub fn pair(&self, place: usize) -> Result<Pair, Fault>
         ensures { seen_pair result ≡ entry_answer self.now place }
     {

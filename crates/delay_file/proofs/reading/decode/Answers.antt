@@ -53,7 +53,7 @@ returns-in_default-try_from c =
     let k = c.args.«record» in
     let xs = c.args.bytes.now in
     let n = c.if-bytes-ne-RECORD_BYTES.false in
-    let f = c.in_default-try_from.ensures in
+    let f = c.in_default-try_from.ensures.1 in
     record { value = ap fault_seen c.at-in_default-try_from.ensures ∙ sym (reading_neither k xs n (f Register) (f Pair)); spelled = tt }
 
 pub returns-in-Head : goal.returns-in-Head
