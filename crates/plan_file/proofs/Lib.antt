@@ -1,4 +1,6 @@
+pub mod Counted
 pub mod First
+pub mod Late
 pub mod Layouts
 pub mod Legal
 pub mod Named

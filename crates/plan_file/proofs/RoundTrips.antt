@@ -6,7 +6,7 @@ use Rattle.std.specs.List.{range_with_len}
 use Rattle.timing.specs.declared.refusal.Refusal.{Refusal}
 use Rattle.std.proofs.lemmas.List.FromFn.{get_or-range_with_len, length-map-range_with_len, get_or-map-range_with_len}
 use Rattle.std.proofs.lemmas.List.{take-append-drop, take_at, drop-drop, get_or-take, get_or-drop, get_or_past, get_or_append_left}
-use Rattle.std.proofs.lemmas.Bool.{and_parts, and_from, and_left, eqb-true, eq-eqb, leb-true, le-leb, ltb-true, ltb-false, lt-ltb, le-ltb}
+use Rattle.std.proofs.lemmas.Bool.{and_parts, and_from, eqb-true, eq-eqb, leb-true, le-leb, ltb-true, ltb-false, lt-ltb}
 use Rattle.timing.specs.Bounds.{Period, Offset, RegisterCount}
 use Rattle.timing.specs.Outcomes.{period_within, offset_within}
 use Rattle.timing.specs.Plans.{domain_of, domains_of}
@@ -21,17 +21,11 @@ use Rattle.plan_file.specs.PlanRead.{ReadsAs, head_of}
 use Rattle.plan_file.specs.declared.head.Head.{Head}
 use Rattle.plan_file.specs.PlanRecords.{plan_bytes, plan_records, plan_length, head_record, word_record, domain_word, word_count, late_at, late_number, bit, count}
 use Rattle.plan_file.specs.Written.{ReadsAsWritten, ReadsBack, Wrote}
+use Rattle.plan_file.proofs.Late.{late_there, not_late}
 use Rattle.plan_file.proofs.Layouts.{eight_back, head_spelled, word_spelled, number_lt}
 use Rattle.plan_file.proofs.Packed.{packed_same, packed_own, own_bit, packed_lt, packed_below, ones_packed, bit_of_packed, count_append, count_past, count_le}
 use Rattle.plan_file.proofs.Words.{good_at, was_read}
 use Rattle.plan_file.proofs.Writing.{plan_whole, plan_count, word_there, written_length}
-
--- a register past the last is not late
-not_late : (n : ℕ) (ds : List ℕ) (r : ℕ) → n ≤ r → late_at n ds r ≡ false
-not_late n ds r h = and_left (ltb r n) _ (le-ltb r n h)
-
-late_there : (n : ℕ) (ds : List ℕ) (r : ℕ) → r < n → late_at n ds r ≡ eqb (get_or ds r 0) 1
-late_there n ds r h = rw (lt-ltb r n h)
 
 -- the ones in words of domains are the late registers
 late_in_words : (bytes : List ℕ) (n : ℕ) (ds : List ℕ) (k : ℕ) → ((j : ℕ) → j < k → word_at bytes j ≡ domain_word n ds (64 * j)) → ones_in bytes k ≡ count (late_at n ds) (64 * k)
@@ -319,3 +313,8 @@ written_reads_back T s n ds was out (Err f) period offset registers w = tt
 pub fit_reads_back : (T s n : ℕ) (ds out : List ℕ) (r : Result ℕ Refusal) → ReadsAsWritten T s n ds out r → ReadsBack T s n ds out r
 fit_reads_back T s n ds out (Ok k) h = λ fit. h
 fit_reads_back T s n ds out (Err f) h = tt
+
+-- and with no premise but that the plan is fit, which is ReadsBack's own
+pub wrote_reads_back : (T s n : ℕ) (ds was out : List ℕ) (r : Result ℕ Refusal) → Wrote T s n ds was out r → ReadsBack T s n ds out r
+wrote_reads_back T s n ds was out (Ok k) w = λ fit. written_reads_back T s n ds was out (Ok k) fit.period_within fit.offset_within fit.registers_within w
+wrote_reads_back T s n ds was out (Err f) w = tt

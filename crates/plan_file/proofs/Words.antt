@@ -1,14 +1,14 @@
 -- The words of a plan file: the steps and the ends of the loops over them.
-use Rattle.std.proofs.Common.{◌≡◌, ℕ, ◌+◌, ◌*◌, ◌<◌, ◌≤◌, Bool, true, false, cond, eqb, leb, List, [], ◌∷◌, ◌++◌, map, length, get_or, drop, set, Some, None, Option, unwrap_or, sym, refl, ap, ◌∙◌, append_assoc, add-one, arith}
+use Rattle.std.proofs.Common.{◌≡◌, ℕ, zero, suc, ◌+◌, ◌*◌, ◌/◌, ◌%◌, ◌^◌, ◌<◌, ◌≤◌, Bool, true, false, cond, eqb, leb, List, [], ◌∷◌, ◌++◌, map, length, get_or, take, drop, set, Some, None, Option, unwrap_or, sym, refl, ap, ap₂, ◌∙◌, append_assoc, add-one, arith}
 use lib.Count.{ones}
 use Rattle.std.specs.List.{range_with_len, prefix_len}
-use Rattle.std.proofs.lemmas.List.FromFn.{length-range_with_len, get_or-range_with_len, map-range_with_len_more, length-map-range_with_len}
+use Rattle.std.proofs.lemmas.List.FromFn.{length-range_with_len, get_or-range_with_len, get_or-map-range_with_len, map-range_with_len_more, length-map-range_with_len, fill_by_all}
 use Rattle.std.proofs.Math.ListN.{drop_of_length-le}
-use Rattle.std.proofs.lemmas.List.{append-nil, drop_more, set_at}
+use Rattle.std.proofs.lemmas.List.{append-nil, drop-drop, drop_at, drop_more, set_at, take_at}
 use Rattle.std.proofs.lemmas.List.Sums.{prefix_len-drop_yes, prefix_len-drop_no, prefix_len-drop_all}
 use Rattle.std.proofs.lemmas.Bool.{and_from, and_left, and_right, eq-eqb, ne_eqb, le-leb, lt-leb}
 use Rattle.delay_file.specs.Files.{record_at, record_count}
-use Rattle.plan_file.specs.PlanReading.{good_words, word_good, words_good, word_at, ones_in}
+use Rattle.plan_file.specs.PlanReading.{bit_of, domain_bit, good_words, word_good, words_good, word_at, ones_in}
 use Rattle.plan_file.specs.PlanRecords.{word_count}
 
 -- whether word j of a file is as it should be
@@ -67,6 +67,35 @@ filled_more f was out i v h e q =
 pub filled_all : (f : ℕ → ℕ) (was out : List ℕ) (i n : ℕ) → i ≡ n → length was ≤ i → out ≡ map f (range_with_len 0 i) ++ drop i was → out ≡ map f (range_with_len 0 n)
 filled_all f was out i n e h q =
     q ∙ ap (λ xs. map f (range_with_len 0 i) ++ xs) (drop_of_length-le was h) ∙ append-nil (map f (range_with_len 0 i)) ∙ ap (λ k. map f (range_with_len 0 k)) e
+
+-- what a function makes, in two parts
+made_in_two : (f : ℕ → ℕ) (a k b : ℕ) → a + k ≡ b → map f (range_with_len 0 b) ≡ map f (range_with_len 0 a) ++ map (λ i. f (a + i)) (range_with_len 0 k)
+made_in_two f a zero b e = let z : b ≡ a = omega arith in ap (λ n. map f (range_with_len 0 n)) z ∙ sym (append-nil (map f (range_with_len 0 a)))
+made_in_two f a (suc k) b e =
+    let z : b ≡ a + k + 1 = omega arith in
+    ap (λ n. map f (range_with_len 0 n)) z
+    ∙ map-range_with_len_more f 0 (a + k) (a + k) (omega arith)
+    ∙ ap (λ xs. xs ++ f (a + k) ∷ []) (made_in_two f a k (a + k) refl)
+    ∙ append_assoc (map f (range_with_len 0 a)) (map (λ i. f (a + i)) (range_with_len 0 k)) (f (a + k) ∷ [])
+    ∙ ap (λ xs. map f (range_with_len 0 a) ++ xs) (sym (map-range_with_len_more (λ i. f (a + i)) 0 k k (omega arith)) ∙ ap (λ n. map (λ i. f (a + i)) (range_with_len 0 n)) (add-one k))
+
+-- the registers of one word more in domain memory
+pub filled_part : (f : ℕ → ℕ) (was out part : List ℕ) (a k b : ℕ) → a + k ≡ b → out ≡ map f (range_with_len 0 a) ++ drop a was → part ≡ map (λ i. f (a + i)) (range_with_len 0 k) → take a out ++ (part ++ drop k (drop a out)) ≡ map f (range_with_len 0 b) ++ drop b was
+filled_part f was out part a k b e q p =
+    let M = map f (range_with_len 0 a) in
+    let l = length-map-range_with_len f 0 a in
+    let front : take a out ≡ M = ap (take a) q ∙ take_at M (drop a was) a l in
+    let behind : drop k (drop a out) ≡ drop b was = ap (λ xs. drop k (drop a xs)) q ∙ ap (drop k) (drop_at M (drop a was) a l) ∙ drop-drop k a was ∙ ap (λ n. drop n was) e in
+    ap₂ (λ xs ys. xs ++ ys) front (ap₂ (λ xs ys. xs ++ ys) p behind)
+    ∙ sym (append_assoc M (map (λ i. f (a + i)) (range_with_len 0 k)) (drop b was))
+    ∙ ap (λ xs. xs ++ drop b was) (sym (made_in_two f a k b e))
+
+-- the bits of a word are the registers that it has
+pub part_of_word : (bytes : List ℕ) (w k word : ℕ) → k ≤ 64 → word ≡ word_at bytes w → map (bit_of word) (range_with_len 0 k) ≡ map (λ i. domain_bit bytes (64 * w + i)) (range_with_len 0 k)
+part_of_word bytes w k word h e =
+    fill_by_all (λ i. domain_bit bytes (64 * w + i)) (map (bit_of word) (range_with_len 0 k)) k 0 (length-map-range_with_len (bit_of word) 0 k)
+    (λ i l. let d : (64 * w + i) / 64 ≡ w = omega arith in let m : (64 * w + i) % 64 ≡ i = omega arith in
+    get_or-map-range_with_len (bit_of word) 0 k i i 0 l (omega arith) ∙ ap (λ n. n / 2 ^ i % 2) e ∙ sym (ap₂ (λ j x. word_at bytes j / 2 ^ x % 2) d m))
 
 -- a field that is there, as the code reads it
 pub field_there : (o : Option ℕ) (k n v : ℕ) → k ≤ n → o ≡ cond (leb k n) (Some v) None → unwrap_or o 0 ≡ v

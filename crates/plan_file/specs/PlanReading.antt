@@ -40,6 +40,10 @@ unfoldable pub ones_in : List ℕ → ℕ → ℕ
 ones_in bytes zero = 0
 ones_in bytes (suc k) = ones_in bytes k + count_ones (word_at bytes k)
 
+-- bit i of a word, 0 the least
+abbrev pub bit_of : ℕ → ℕ → ℕ
+bit_of word i = word / 2 ^ i % 2
+
 -- the byte of domain memory that a file gives register r, 0 or 1: bit r % 64 of word r / 64
 abbrev pub domain_bit : List ℕ → ℕ → ℕ
 domain_bit bytes r = word_at bytes (r / 64) / 2 ^ (r % 64) % 2

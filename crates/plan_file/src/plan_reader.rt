@@ -2,7 +2,7 @@
 ghost use Rattle.std.specs.Prelude.{◌≡◌, ◌^◌, ◌<◌, ◌≤◌, ◌&&◌, ◌++◌, map, length, drop, IfOk, if◌then◌else◌, Some, None, nat_le, nat_lt};
 ghost use Rattle.plan_file.specs.PlanRead.{RestStays, WordsFound, read_as};
 ghost use Rattle.delay_file.specs.Bytes.{be64};
-ghost use Rattle.plan_file.specs.PlanReading.{domain_bit, plan_reading, word_good};
+ghost use Rattle.plan_file.specs.PlanReading.{bit_of, domain_bit, plan_reading, word_good};
 ghost use Rattle.delay_file.specs.Files.{record_count};
 ghost use Rattle.plan_file.specs.PlanRecords.{plan_bytes, word_count};
 ghost use Rattle.std.specs.List.{range_with_len};
@@ -117,8 +117,21 @@ fn fill_domains(bytes: &[u8], registers: u32, domains: &mut [u8])
     requires words { word_count registers < record_count bytes.now }
     ensures { domains.new ≡ map (domain_bit bytes.now) (range_with_len 0 registers) ++ drop registers domains.old }
 {
-    for (register, domain) in domains[..registers as usize].iter_mut().enumerate() {
-        let word = word_at(record_bytes(bytes, 1 + register / 64), 8).unwrap_or(0);
-        *domain = ((word >> (register % 64)) % 2) as u8;
+    // Each word goes to the part of the lent memory that is its registers'; chunks of the memory would say it no plainer.
+    for word in 0..word_count(registers) {
+        let first = WORD_REGISTERS * word;
+        let end = (first + WORD_REGISTERS).min(registers as usize);
+        let bits = word_at(record_bytes(bytes, 1 + word), 8).unwrap_or(0);
+        fill_word(bits, &mut domains[first..end]);
+    }
+}
+
+// Fills the domain memory of a word's registers, a byte for each.
+fn fill_word(word: u64, domains: &mut [u8])
+    requires { length domains.old ≤ 64 }
+    ensures { domains.new ≡ map (bit_of word) (range_with_len 0 (length domains.old)) }
+{
+    for (i, domain) in domains.iter_mut().enumerate() {
+        *domain = ((word >> i) % 2) as u8;
     }
 }

@@ -3,7 +3,7 @@ use Rattle.std.proofs.lemmas.List.{take_all}
 use Rattle.timing.specs.Meaning.{faulty, is_faulty}
 use Rattle.delay_file.specs.Files.{view_meaning}
 use Rattle.clockplan.specs.Counts.{faulty_count}
-use Rattle.clockplan.proofs.Counted.{one_more, none_more}
+use Rattle.plan_file.proofs.Counted.{one_more, none_more}
 use Rattle.clockplan.proofs.show.show_entries.Goals as goal
 use Rattle.clockplan.proofs.show.show_entries.Goals.{then-branch, else-branch}
 

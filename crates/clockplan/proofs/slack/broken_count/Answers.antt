@@ -7,7 +7,7 @@ use Rattle.timing.specs.Meaning.{faulty, entry_at}
 use Rattle.delay_file.specs.Files.{view_meaning}
 use Rattle.plan_file.specs.Draft.{draft_time}
 use Rattle.clockplan.specs.Counts.{is_broken}
-use Rattle.clockplan.proofs.Counted.{counted_places}
+use Rattle.plan_file.proofs.Counted.{counted_places}
 use Rattle.clockplan.proofs.slack.broken_count.Goals as goal
 
 pub returns : goal.returns
