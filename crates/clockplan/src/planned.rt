@@ -35,14 +35,7 @@ where
     let mut domains = vec![in heap; 0; MAX_REGISTERS as usize]?;
     let mut out = String::new(heap);
     let outcome = match open_both(paths, &file, &plan, &mut domains) {
-        Ok(opened) => {
-            let planned = Planned {
-                file: &file,
-                view: opened.view,
-                draft: opened.numbers.draft(&domains),
-            };
-            tell(planned, &mut out)?
-        }
+        Ok(opened) => tell(opened.planned(&file, &domains), &mut out)?,
         Err(problem) => tell_problem(problem, &mut out)?,
     };
     rt.print(out.as_str())?;
@@ -54,6 +47,21 @@ where
 struct Opened<'a> {
     view: FileView<'a>,
     numbers: PlanNumbers,
+}
+
+impl<'a> Opened<'a> {
+    // The plan as a draft, its domains in this memory, beside the file that it is for.
+    fn planned(self, file: &'a [u8], domains: &'a [u8]) -> Planned<'a>
+        ensures file { (result.file.now ≡ file.now) × (result.view ≡ self.entry.view) }
+        ensures numbers { (result.draft.period ≡ self.entry.numbers.period) × (result.draft.offset ≡ self.entry.numbers.offset) }
+        ensures domains { result.draft.domains.now ≡ domains.now }
+    {
+        Planned {
+            file,
+            view: self.view,
+            draft: self.numbers.draft(domains),
+        }
+    }
 }
 
 // Opens a delay file and reads a plan for it, the plan's domains into memory. Nothing is judged yet.

@@ -3,7 +3,6 @@ use crate::planned::{Planned, with_planned};
 use crate::problem::{Problem, tell_problem};
 use plan_report::report::{self, HEAD_ROOM, LINE_ROOM};
 use std::alloc::Global;
-use std::str;
 use timing::limits::MAX_REGISTERS;
 
 // The memory that a report of the most registers wants.
@@ -18,6 +17,7 @@ pub(crate) fn report(rt: &HostRuntime, paths: Paths<'_>) -> anyhow::Result<Outco
     )
 }
 
+// What is printed is the memory of the report itself, and no copy of it.
 fn tell_report(
     heap: Global,
     paths: Paths<'_>,
@@ -28,7 +28,7 @@ fn tell_report(
     match report::report(planned.file, &planned.draft, &mut text) {
         Ok(length) => {
             text.truncate(length);
-            out.push_str(str::from_utf8(&text)?)?;
+            *out = String::from_utf8(text)?;
             Ok(Outcome::Granted)
         }
         Err(fault) => tell_problem(
