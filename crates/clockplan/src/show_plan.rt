@@ -100,10 +100,14 @@ fn show_word(word: usize, domains: &[u8], out: &mut String) -> anyhow::Result<()
 fn late_in(domains: &[u8]) -> usize
     ensures { result ≡ late_count domains.now }
 {
-    domains
-        .iter()
-        .filter(|byte| **byte == Domain::Late.byte())
-        .count()
+    let mut late: usize = 0;
+    // A chain of `filter` and `count` takes longer.
+    for byte in domains {
+        if *byte == Domain::Late.byte() {
+            late += 1;
+        }
+    }
+    late
 }
 
 // A plan that does not read: why, and what each of its records says by itself.
