@@ -32,7 +32,7 @@ pub fn read_circuit<'t>(heap: Global, text: &'t str) -> Result<Circuit<'t>, Allo
     for (at, line) in (1..).zip(text.lines()) {
         let line = line.trim_start();
         // A comment may be long, so it is not split into words.
-        if line.is_empty() || line.starts_with('#') {
+        if line.starts_with('#') {
             continue;
         }
         words.clear();

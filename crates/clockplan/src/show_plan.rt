@@ -100,14 +100,10 @@ fn show_word(word: usize, domains: &[u8], out: &mut String) -> anyhow::Result<()
 fn late_in(domains: &[u8]) -> usize
     ensures { result ≡ late_count domains.now }
 {
-    let mut late: usize = 0;
-    // A chain of `filter` and `count` takes longer.
-    for byte in domains {
-        if *byte == Domain::Late.byte() {
-            late += 1;
-        }
-    }
-    late
+    domains
+        .iter()
+        .filter(|byte| **byte == Domain::Late.byte())
+        .count()
 }
 
 // A plan that does not read: why, and what each of its records says by itself.
